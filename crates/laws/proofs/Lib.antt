@@ -1,0 +1,4 @@
+pub mod Flow
+pub mod Cases
+pub mod Tables
+pub mod Loops

@@ -1,0 +1,3 @@
+pub mod Choice
+pub mod Guarded
+pub mod Lists
