@@ -73,25 +73,25 @@ told p q = sym p ∙ q
 pub told-not : {r b x : Bool} → r ≡ b → not r ≡ x → not b ≡ x
 told-not p q = ap not (sym p) ∙ q
 
--- a conjunction whose first test the code made is the second, or false
-pub and-second : {b : Bool} (c : Bool) → b ≡ true → c ≡ b and c
+-- a conjunction and a disjunction, along the tests that the code made
+pub and-stops : {b : Bool} (c : Bool) → b ≡ false → false ≡ b and c
 unfolding _and_
-and-second c e = rw e
+and-stops c e = rw e
 
-pub and-fails : {b : Bool} (c : Bool) → b ≡ false → false ≡ b and c
+pub and-goes : {b x : Bool} (c : Bool) → b ≡ true → x ≡ c → x ≡ b and c
 unfolding _and_
-and-fails c e = rw e
+and-goes c e h = rw e h
 
-pub or-holds : {b : Bool} (c : Bool) → b ≡ true → true ≡ b or c
+pub or-stops : {b : Bool} (c : Bool) → b ≡ true → true ≡ b or c
 unfolding _or_
-or-holds c e = rw e
+or-stops c e = rw e
 
-pub or-second : {b : Bool} (c : Bool) → b ≡ false → c ≡ b or c
+pub or-goes : {b x : Bool} (c : Bool) → b ≡ false → x ≡ c → x ≡ b or c
 unfolding _or_
-or-second c e = rw e
+or-goes c e h = rw e h
 
 pub ruleset tests = (not-yes, not-no, told, told-not, le-leb, lt-leb, lt-ltb, le-ltb, eq-eqb, ne-eqb)
 
 pub ruleset flow = (passes, tests)
 
-pub ruleset branches = (yes, no, first, second, tests)
+pub ruleset branches = (yes, no, first, second, and-stops, and-goes, or-stops, or-goes, tests)

@@ -2,3 +2,4 @@ pub mod Flow
 pub mod Cases
 pub mod Tables
 pub mod Loops
+pub mod Signed

@@ -2,10 +2,10 @@
 use mathlib.Core.Path.{_≡_, refl, sym, ap, _∙_, subst}
 use mathlib.Core.Logic.{_≢_}
 use mathlib.Core.List.{List, [], _∷_}
-use Prim.Native.Nat.{ℕ, _<_}
+use Prim.Native.Nat.{ℕ, zero, suc, _<_, _≤_}
 use native.Mathlib.Decide.{decLt, ℕ-discrete}
 use native.Mathlib.Omega.{arith}
-use lib.ListN.{length, getD, set}
+use lib.ListN.{length, getD, set, List·getD-eq-default}
 use lib.Seq.{getD-set-same, getD-set-other, set-out}
 
 -- a table: what is read after a write is what was written, or what was there
@@ -36,3 +36,20 @@ module _ {A : Type 0} (d : A) where
       go (no n) _ =
           subst (λ x. Q x (getD (set m i w) k d)) (sym (getD-set-other l i k v d n))
           (subst (Q (getD l k d)) (sym (getD-set-other m i k w d n)) old)
+
+in-list : {A : Type 0} (l : List A) (i : ℕ) (d e : A) → i < length l → getD l i d ≡ getD l i e
+in-list [] i d e h = absurd (omega arith)
+in-list (x ∷ l) zero d e h = refl
+in-list (x ∷ l) (suc i) d e h = in-list l i d e (omega arith)
+
+-- a table of n entries, read and written past its end
+module _ {A : Type 0} {n : ℕ} where
+  pub read-past : (l : List A) (i : ℕ) (d : A) → length l ≡ n → n ≤ i → d ≡ getD l i d
+  read-past l i d len h = sym (List·getD-eq-default l d (omega arith))
+
+  pub write-past : (l : List A) (i : ℕ) (v : A) → length l ≡ n → n ≤ i → l ≡ set l i v
+  write-past l i v len h = sym (set-out l i v (omega arith))
+
+  -- within the table the default does not matter
+  pub read-in : (l : List A) (i : ℕ) (d e : A) → length l ≡ n → i < n → getD l i d ≡ getD l i e
+  read-in l i d e len h = in-list l i d e (omega arith)

@@ -5,11 +5,15 @@
 use Prim.Native.Nat.{ℕ}
 use mathlib.Core.Bool.{Bool, true, false}
 use lib.Dec.{leb, ltb, eqb}
-use lib.IntN.{ℤ, pos, negℤ}
+use lib.IntN.{ℤ, pos, negsuc, negℤ}
 
 -- a number below 0
 abbrev pub minus : ℕ → ℤ
 minus n = negℤ (pos n)
+
+abbrev pub isZero : ℤ → Bool
+isZero (pos n) = eqb n 0
+isZero (negsuc n) = false
 
 infix 40 _≤?_
 abbrev pub _≤?_ : ℕ → ℕ → Bool

@@ -1,0 +1,18 @@
+use mathlib.Core.Path.{ap₂}
+use mir.Syntax.{w64}
+use mir.Facts.{toZ-ofZ}
+use Rattle.records.specs.declared.reply.Fields.the-variants.{NoFields}
+use Rattle.records.specs.Reply.{replyWith, answered}
+use borrow.Author.Needs.{needs}
+use Rattle.records.proofs.reply.Reply.answered.Statement.{statement}
+use Rattle.records.proofs.reply.Reply.answered.Tie as tie
+
+pub answered-spec : {M : Type 1} → statement M
+unfolding answered
+answered-spec =
+    tie.close
+    (tie.spec
+    (λ c κs. search needs)
+    (λ c. 
+    let a = c .before .args in
+    ap₂ (replyWith (a .tables) NoFields) (toZ-ofZ {w = w64} (c .before .fits .answer)) (c .none .ensures)))

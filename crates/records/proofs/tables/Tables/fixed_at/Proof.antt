@@ -1,0 +1,25 @@
+use mathlib.Core.Path.{_≡_, _∙_}
+use lib.ListN.{length}
+use Rattle.laws.proofs.Loops.{length-mapped}
+use Rattle.laws.proofs.Tables.{read-past, read-in}
+use Rattle.records.specs.Tables.{fixedAt}
+use borrow.Author.Needs.{needs}
+use Rattle.records.proofs.tables.Tables.fixed_at.Statement.{statement}
+use Rattle.records.proofs.tables.Tables.fixed_at.Tie as tie
+
+pub fixed-at-spec : {M : Type 1} → statement M
+unfolding fixedAt
+fixed-at-spec =
+    tie.close
+    (tie.spec
+    (λ c κs. search needs)
+    (λ c. 
+    let a = c .before .before .args in
+    let long : length (a .t1 .fixed) ≡ 64 = search length-mapped in
+    c .none .ensures ∙ read-past (a .t1 .fixed) (a .name) _ long (c .before .if1 .taken))
+    (λ c. search needs)
+    (λ c. search needs)
+    (λ c. 
+    let a = c .before .before .args in
+    let long : length (a .t1 .fixed) ≡ 64 = search length-mapped in
+    read-in (a .t1 .fixed) (a .name) _ _ long (c .before .if1 .left)))

@@ -1,0 +1,63 @@
+// reply.rt: what a call answers: a number, the fields that follow it, and the tables.
+ghost use mathlib.Core.Path.{_≡_};
+ghost use Rattle.records.specs.Reply.{reply, answered};
+use crate::tables::Tables;
+use job_policy::JobPolicy;
+
+// The fields after the answer. The policy of a job's information stands beside, in the reply.
+pub enum Fields {
+    NoFields,
+    // 14 and 15: the owner of the level that has the exception, 0 where none.
+    OwnerField(u8),
+    JobFields {
+        killed: bool,
+        terminated: bool,
+        amount: i64,
+        mode: u8,
+    },
+    ProcessFields {
+        code: i64,
+        started: bool,
+        exited: bool,
+        debugger: bool,
+        terminated: bool,
+    },
+    ThreadFields {
+        state: u16,
+        level: u8,
+        suspends: u16,
+    },
+}
+
+pub struct Reply {
+    pub answer: i64,
+    pub fields: Fields,
+    pub policy: JobPolicy,
+    pub tables: Tables,
+}
+
+impl Reply {
+    // An answer with no field: each refusal, and each accepted call that shows nothing.
+    pub fn answered(tables: Tables, answer: i64) -> Reply
+        ensures { λ r. ⌜ r ≡ answered tables answer ⌝ }
+    {
+        Reply {
+            answer: answer,
+            fields: Fields::NoFields,
+            policy: JobPolicy::none(),
+            tables: tables,
+        }
+    }
+
+    // An answer with its fields.
+    pub fn with_fields(tables: Tables, answer: i64, fields: Fields) -> Reply
+        ensures { λ r. ⌜ r ≡ reply tables answer fields ⌝ }
+    {
+        Reply {
+            answer: answer,
+            fields: fields,
+            policy: JobPolicy::none(),
+            tables: tables,
+        }
+    }
+}
