@@ -1,0 +1,1 @@
+//! Stand-in for the clock object, which no task source uses.
