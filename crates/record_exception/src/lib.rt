@@ -1,6 +1,10 @@
-// channel.rt: a level of an exception channel, as Exceptionate of exception.rs has it.
+// record_exception: a level of an exception channel (Exceptionate of exception.rs), and an exception that a handler
+// holds, with the place in the order of handlers where it was delivered.
 ghost use mathlib.Core.Path.{_≡_};
 ghost use Rattle.record_exception.specs.Channel.{isBound, isShut, tried};
+ghost use Rattle.record_exception.specs.Exception.{levelOf, currentLevel, withHandled, withSecond, exceptionAt};
+
+// -- Levels --------------------------------------------------------------------------------
 
 pub enum Level {
     Unbound,
@@ -46,24 +50,32 @@ impl Level {
     }
 }
 
-// exception.rt: an exception that a handler holds, and the place in the order of handlers where it was delivered.
-ghost use mathlib.Core.Path.{_≡_};
-ghost use Rattle.record_exception.specs.Exception.{levelOf, currentLevel, withHandled, withSecond, exceptionAt};
+// -- Exceptions ----------------------------------------------------------------------------
 
 // The numbers of ExceptionType.
 pub struct ExceptionType;
 
 impl ExceptionType {
     pub const GENERAL: u16 = 0x0008;
+
     pub const FATAL_PAGE_FAULT: u16 = 0x0108;
+
     pub const UNDEFINED_INSTRUCTION: u16 = 0x0208;
+
     pub const SOFTWARE_BREAKPOINT: u16 = 0x0308;
+
     pub const HARDWARE_BREAKPOINT: u16 = 0x0408;
+
     pub const UNALIGNED_ACCESS: u16 = 0x0508;
+
     pub const SYNTH: u16 = 0x8000;
+
     pub const THREAD_STARTING: u16 = 0x8008;
+
     pub const THREAD_EXITING: u16 = 0x8108;
+
     pub const POLICY_ERROR: u16 = 0x8208;
+
     pub const PROCESS_STARTING: u16 = 0x8308;
 }
 

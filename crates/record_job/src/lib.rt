@@ -1,8 +1,8 @@
-// job.rt: the record of a job. Its policies stand in tables of their own, beside the jobs.
+// record_job: the record of a job. Its policies stand in tables of their own, beside the jobs.
 ghost use mathlib.Core.Path.{_≡_};
 ghost use Rattle.record_job.specs.Job.{noJob, rootJob, newJob, killed, terminated, withSlack, withLevel4, withLevel5, isParent, childOf};
-use record_exception::Level;
 use job_policy::TimerSlack;
+use record_exception::Level;
 
 // The root and an unmade job have no parent.
 pub enum Parent {

@@ -1,4 +1,4 @@
-// process.rt: the record of a process. The policy fixed at its making stands in a table of its own, beside the processes.
+// record_process: the record of a process. The policy fixed at its making stands in a table of its own, beside the processes.
 ghost use mathlib.Core.Path.{_≡_};
 ghost use Rattle.record_process.specs.Process.{noProcess, newProcess, isInit, isExited, codeOf, withStatus, ended, bindTo, isCritical, acts, withLevel1, withLevel3, memberOf};
 use record_exception::Level;

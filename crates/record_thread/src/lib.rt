@@ -1,27 +1,41 @@
-// thread.rt: the record of a thread, and what a single call does to it. States are numbers, as in ThreadState.
+// record_thread: the record of a thread, and what a single call does to it. States are numbers, as in ThreadState.
 ghost use mathlib.Core.Path.{_≡_};
 ghost use Rattle.record_thread.specs.Thread.{noThread, newThread, hides, shownState, signalsOf, signals, isLive, isIdle, isFree, isInWait, exceptionOf, threadOf, withoutException, start, kill, exit, finish, suspend, resume, waits, endWait, withLevel2};
-use record_exception::Level;
 use record_exception::Exception;
+use record_exception::Level;
 
 // The numbers of ThreadState.
 pub struct ThreadState;
 
 impl ThreadState {
     pub const NEW: u16 = 0;
+
     pub const RUNNING: u16 = 1;
+
     pub const SUSPENDED: u16 = 2;
+
     pub const BLOCKED: u16 = 3;
+
     pub const DYING: u16 = 4;
+
     pub const DEAD: u16 = 5;
+
     pub const BLOCKED_EXCEPTION: u16 = 0x103;
+
     pub const BLOCKED_SLEEPING: u16 = 0x203;
+
     pub const BLOCKED_FUTEX: u16 = 0x303;
+
     pub const BLOCKED_PORT: u16 = 0x403;
+
     pub const BLOCKED_CHANNEL: u16 = 0x503;
+
     pub const BLOCKED_WAIT_ONE: u16 = 0x603;
+
     pub const BLOCKED_WAIT_MANY: u16 = 0x703;
+
     pub const BLOCKED_INTERRUPT: u16 = 0x803;
+
     pub const BLOCKED_PAGER: u16 = 0x903;
 }
 

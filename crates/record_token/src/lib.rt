@@ -1,4 +1,4 @@
-// suspend_token.rt: the record of a suspend token: the task that it holds, by kind and name. A dropped one holds nothing.
+// record_token: the record of a suspend token: the task that it holds, by kind and name. A dropped one holds nothing.
 ghost use mathlib.Core.Path.{_≡_};
 ghost use Rattle.record_token.specs.SuspendToken.{noToken, newToken, drop};
 
@@ -7,7 +7,9 @@ pub struct Kind;
 
 impl Kind {
     pub const JOB: u8 = 0;
+
     pub const PROCESS: u8 = 1;
+
     pub const THREAD: u8 = 2;
 }
 

@@ -13,6 +13,6 @@ ended-spec =
     tie.close
     (tie.spec
     (λ c κs. search needs)
-    (λ c. 
+    (λ c.
     let got : SFits w64 (c .code .result) = record { sfits = c .code .ok } in
     ap (endedWith (c .before .args .self)) (toZ-ofZ {w = w64} got ∙ c .code .ensures)))

@@ -13,6 +13,6 @@ answered-spec =
     tie.close
     (tie.spec
     (λ c κs. search needs)
-    (λ c. 
+    (λ c.
     let a = c .before .args in
     ap₂ (replyWith (a .tables) NoFields) (toZ-ofZ {w = w64} (c .before .fits .answer)) (c .none .ensures)))

@@ -12,6 +12,6 @@ with-fields-spec =
     tie.close
     (tie.spec
     (λ c κs. search needs)
-    (λ c. 
+    (λ c.
     let a = c .before .args in
     ap₂ (replyWith (a .tables) (a .fields)) (toZ-ofZ {w = w64} (c .before .fits .answer)) (c .none .ensures)))

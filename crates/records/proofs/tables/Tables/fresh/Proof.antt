@@ -16,7 +16,7 @@ fresh-spec =
     (λ c κs. search needs)
     (λ c κs. search needs)
     (λ c κs. search needs)
-    (λ c. 
+    (λ c.
     let d = c .before in
     let e = d .before in
     let f = e .before in

@@ -13,13 +13,13 @@ job-at-spec =
     tie.close
     (tie.spec
     (λ c κs. search needs)
-    (λ c. 
+    (λ c.
     let a = c .before .before .args in
     let long : length (a .t1 .jobs) ≡ 32 = search length-mapped in
     c .none .ensures ∙ read-past (a .t1 .jobs) (a .name) _ long (c .before .if1 .taken))
     (λ c. search needs)
     (λ c. search needs)
-    (λ c. 
+    (λ c.
     let a = c .before .before .args in
     let long : length (a .t1 .jobs) ≡ 32 = search length-mapped in
     read-in (a .t1 .jobs) (a .name) _ _ long (c .before .if1 .left)))

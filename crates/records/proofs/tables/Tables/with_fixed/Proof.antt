@@ -15,7 +15,7 @@ with-fixed-spec =
     (λ c. search needs)
     (λ c. search needs)
     (λ c. search needs)
-    (λ c. 
+    (λ c.
     let a = c .before .args in
     let long : length (a .t1 .fixed) ≡ 64 = search length-mapped in
     ap (withFixed (a .t1)) (write-past (a .t1 .fixed) (a .name) (a .v) long (c .if1 .left))))

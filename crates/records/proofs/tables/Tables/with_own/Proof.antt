@@ -15,7 +15,7 @@ with-own-spec =
     (λ c. search needs)
     (λ c. search needs)
     (λ c. search needs)
-    (λ c. 
+    (λ c.
     let a = c .before .args in
     let long : length (a .t1 .own) ≡ 32 = search length-mapped in
     ap (withOwn (a .t1)) (write-past (a .t1 .own) (a .name) (a .v) long (c .if1 .left))))

@@ -15,7 +15,7 @@ with-process-spec =
     (λ c. search needs)
     (λ c. search needs)
     (λ c. search needs)
-    (λ c. 
+    (λ c.
     let a = c .before .args in
     let long : length (a .t1 .processes) ≡ 64 = search length-mapped in
     ap (withProcesses (a .t1)) (write-past (a .t1 .processes) (a .name) (a .v) long (c .if1 .left))))

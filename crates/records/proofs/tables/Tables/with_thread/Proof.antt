@@ -15,7 +15,7 @@ with-thread-spec =
     (λ c. search needs)
     (λ c. search needs)
     (λ c. search needs)
-    (λ c. 
+    (λ c.
     let a = c .before .args in
     let long : length (a .t1 .threads) ≡ 128 = search length-mapped in
     ap (withThreads (a .t1)) (write-past (a .t1 .threads) (a .name) (a .v) long (c .if1 .left))))

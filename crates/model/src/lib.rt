@@ -1,0 +1,1 @@
+// model: no code but a function that carries the claims. specs/ says what every call means.
