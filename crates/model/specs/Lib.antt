@@ -3,4 +3,7 @@ pub mod Job
 pub mod SuspendToken
 pub mod JobPolicy
 pub mod Exception
-pub mod Calls
+pub mod JobCalls
+pub mod ThreadCalls
+pub mod ExceptionCalls
+pub mod Step

@@ -5,6 +5,7 @@ use mathlib.Core.Bool.{Bool, true, false}
 use lib.IntN.{ℤ, pos}
 use Rattle.laws.specs.Guarded.{Result, found, missing, Guarded, ok, settle}
 use Rattle.record_exception.specs.declared.Exception.{Exception}
+use Rattle.record_exception.specs.declared.Level.{Level}
 use Rattle.record_job.specs.declared.Job.{Job}
 use Rattle.record_process.specs.declared.Process.{Process}
 use Rattle.record_thread.specs.declared.Thread.{Thread}
@@ -22,6 +23,11 @@ use Rattle.records.specs.declared.tables.FoundThread.the-variants.{NoThread, Ol
 use Rattle.records.specs.declared.tables.FoundToken.{FoundToken}
 use Rattle.records.specs.declared.tables.FoundToken.the-variants.{NoToken, OldToken}
 use Rattle.records.specs.declared.reply.Reply.{Reply}
+use Rattle.owners.specs.declared.FoundLevel.{FoundLevel}
+use Rattle.owners.specs.declared.FoundLevel.the-variants.{NoLevel, OldLevel}
+use Rattle.owners.specs.declared.FoundTask.{FoundTask}
+use Rattle.owners.specs.declared.FoundTask.the-variants.{NoTask, OldTask}
+use Rattle.owners.specs.Owners.{foundLevel, foundTask}
 use Rattle.records.specs.Reply.{answered}
 use Rattle.records.specs.Tables.{foundJob, foundProcess, foundThread, foundToken}
 
@@ -71,3 +77,19 @@ heldException (Held e) = found e
 
 abbrev pub exception : Thread → Result Exception
 exception v = heldException (exceptionOf v)
+
+-- ---- The owner of a level and the task of a kind: 103 unless made ----------------------------
+
+unfoldable pub oldLevel : FoundLevel → Result Level
+oldLevel NoLevel = missing (pos 103)
+oldLevel (OldLevel l) = found l
+
+unfoldable pub oldTask : FoundTask → Result Unit
+oldTask NoTask = missing (pos 103)
+oldTask OldTask = found tt
+
+abbrev pub channel : Tables → ℕ → ℕ → Result Level
+channel t level n = oldLevel (foundLevel t level n)
+
+abbrev pub task : Tables → ℕ → ℕ → Result Unit
+task t kind n = oldTask (foundTask t kind n)

@@ -9,23 +9,10 @@ use Rattle.record_thread.specs.declared.Thread.{Thread}
 use Rattle.record_thread.specs.Thread.{suspend, resume, threadOf, FULL}
 use Rattle.record_token.specs.SuspendToken.{newToken, drop}
 use Rattle.records.specs.declared.tables.Tables.{Tables}
-use Rattle.records.specs.Tables.{jobAt, processAt, threadAt, tokenAt, putThread, putToken, withThreads}
-
-abbrev pub JOB : ℕ
-JOB = 0
+use Rattle.records.specs.Tables.{threadAt, tokenAt, putThread, putToken, withThreads}
 
 abbrev pub PROCESS : ℕ
 PROCESS = 1
-
--- how many names a kind has
-unfoldable pub namesOf : ℕ → ℕ
-namesOf kind = if kind =? JOB then 32 else if kind =? PROCESS then 64 else 128
-
-unfoldable pub taskMade : Tables → ℕ → ℕ → Bool
-taskMade t kind n =
-    if kind =? JOB then jobAt t n .made else
-    if kind =? PROCESS then processAt t n .made else
-    threadAt t n .made
 
 -- does a thread concerned have this count?
 unfoldable pub someAt : Tables → ℕ → ℕ → ℕ → Bool
