@@ -16,7 +16,7 @@ use Rattle.laws.proofs.Loops.{zip-at}
 use Rattle.job_policy.specs.declared.JobPolicy.{JobPolicy}
 use Rattle.job_policy.specs.declared.BasicPolicy.{BasicPolicy}
 use Rattle.job_policy.specs.declared.ActionFound.the-variants.{Unset, Action}
-use Rattle.job_policy.specs.Policy.{getAction, apply, mergedAction, merge, ALLOW, DENY, Cases}
+use Rattle.job_policy.specs.Policy.{getAction, apply, mergedAction, merge, ALLOW, DENY, M1, M2, Cases}
 
 abbrev pub policy : List ℕ → JobPolicy
 policy l = record { action = l }
@@ -102,4 +102,5 @@ parent-wins own parent c e f =
     ∙ sym (second _ _ (ne-eqb _ _ k) (sym (p .1))))
 
 pub cases : Cases
+unfolding M1 M2
 cases = record { m1 = parent-wins; m2 = later-kept }

@@ -40,10 +40,19 @@ ALLOW = 0
 abbrev pub DENY : ℕ
 DENY = 1
 
--- M1: own Allow under a parent's Deny is Deny. M2: of two entries for one condition the later is kept.
+-- M1: own Allow under a parent's Deny is Deny
+unfoldable pub M1 : Type 0
+M1 =
+    (own parent : JobPolicy) (c : ℕ) →
+    getAction own c ≡ Action ALLOW → getAction parent c ≡ Action DENY → getAction (merge own parent) c ≡ Action DENY
+
+-- M2: of two entries for one condition the later is kept
+unfoldable pub M2 : Type 0
+M2 =
+    (p : JobPolicy) (c a b : ℕ) → b < 5 →
+    apply (apply p (record { condition = c; action = a })) (record { condition = c; action = b })
+    ≡ apply p (record { condition = c; action = b })
+
 pub record Cases : Type 0 where
-  pub m1 : (own parent : JobPolicy) (c : ℕ) →
-      getAction own c ≡ Action ALLOW → getAction parent c ≡ Action DENY → getAction (merge own parent) c ≡ Action DENY
-  pub m2 : (p : JobPolicy) (c a b : ℕ) → b < 5 →
-      apply (apply p (record { condition = c; action = a })) (record { condition = c; action = b })
-      ≡ apply p (record { condition = c; action = b })
+  pub m1 : M1
+  pub m2 : M2

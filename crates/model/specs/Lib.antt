@@ -7,3 +7,4 @@ pub mod JobCalls
 pub mod ThreadCalls
 pub mod ExceptionCalls
 pub mod Step
+pub mod Cases

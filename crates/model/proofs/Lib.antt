@@ -1,0 +1,4 @@
+pub mod Cases
+pub mod TaskTables
+pub mod SideTables
+pub mod Cross
