@@ -3,3 +3,4 @@ pub mod Cases
 pub mod Tables
 pub mod Loops
 pub mod Signed
+pub mod Counts
