@@ -1,11 +1,12 @@
--- A test or a change of a whole table, and what it says of one entry, whatever the index. Assumes nothing.
+-- A test or a change of a whole table, and what it says of one entry, whatever the index. Assumes
+-- nothing.
 --     held-in        an entry that passes a test which the default fails stands in the table
 --     any-at, none-at, any-some    some entry passes: this one does, none does, one is named
 --     any-same       two tables with as many entries that pass, entry by entry
 --     map-at         an entry of a table that was changed throughout
 use Prim.Native.Nat.{ℕ, zero, suc, _<_}
 use native.Mathlib.Omega.{arith}
-use mathlib.Core.Path.{_≡_, refl, sym, _∙_, ap, subst}
+use mathlib.Core.Path.{_≡_, refl, sym, _∙_, subst}
 use mathlib.Core.Bool.{Bool, true, false}
 use mathlib.Core.List.{List, [], _∷_, map}
 use lib.ListN.{length, getD, List·getD-map}
@@ -47,7 +48,8 @@ module _ {A : Type 0} (f : A → Bool) (d : A) where
   pub any-some : (l : List A) → any f l ≡ true → (i : ℕ) × (f (getD l i d) ≡ true)
   unfolding any
   any-some [] e = no-both e refl
-  any-some (x ∷ l) e = or-cases (f x) (any f l) e (λ h. (0, h)) (λ h. let r = any-some l h in (suc (r .0), r .1))
+  any-some (x ∷ l) e =
+      or-cases (f x) (any f l) e (λ h. (0, h)) (λ h. let r = any-some l h in (suc (r .0), r .1))
 
   pub none-all : (l : List A) → ((i : ℕ) → f (getD l i d) ≡ false) → any f l ≡ false
   none-all l h = by (any f l) (λ e. let r = any-some l e in no-both (r .1) (h (r .0))) (λ e. e)
@@ -62,5 +64,6 @@ any-same f g d l m y z h =
 
 -- ---- One change ----------------------------------------------------------------------------
 
-pub map-at : {A : Type 0} (f : A → A) (d : A) → f d ≡ d → (l : List A) (i : ℕ) → getD (map f l) i d ≡ f (getD l i d)
+pub map-at : {A : Type 0} (f : A → A) (d : A) → f d ≡ d → (l : List A) (i : ℕ)
+    → getD (map f l) i d ≡ f (getD l i d)
 map-at f d z l i = subst (λ x. getD (map f l) i x ≡ f (getD l i d)) z (List·getD-map f l i d)

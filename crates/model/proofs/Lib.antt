@@ -2,3 +2,14 @@ pub mod Cases
 pub mod TaskTables
 pub mod SideTables
 pub mod Cross
+pub mod ThreadMaps
+pub mod Lengths
+pub mod Live
+pub mod Keeps
+pub mod Remaining
+pub mod Depth
+pub mod Steps
+pub mod Upward
+pub mod Fixed
+pub mod Stays
+pub mod Enough
