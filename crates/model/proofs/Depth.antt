@@ -17,10 +17,8 @@ use Rattle.record_process.specs.Process.{KILL-CODE, withStatus, acts}
 use Rattle.records.specs.declared.tables.Tables.{Tables}
 use Rattle.records.specs.Tables.{jobAt, processAt, putJob, putProcess}
 use Rattle.model.specs.Job.{upTo, isLiveJob, isLiveProcess, killChild, exitMember, killListed}
-use Rattle.model.specs.Job.{killStep, killBound}
-use Rattle.model.specs.Job.{unlistProcess, endStep, exitListed, exitStep, killWithin}
-use Rattle.model.specs.Job.{exitWithin, remaining}
-use Rattle.model.specs.Job.{killJob, exitProcess}
+use Rattle.model.specs.Job.{killStep, killBound, unlistProcess, endStep, exitListed, exitStep}
+use Rattle.model.specs.Job.{killWithin, exitWithin, remaining, killJob, exitProcess}
 use Rattle.model.proofs.Remaining.{mark-lt, exit-lt, unlist-le, killWithin-le, exitWithin-le}
 use Rattle.model.proofs.Remaining.{upTo-le, killChild-le, exitMember-le}
 
@@ -97,9 +95,10 @@ module _ (m : ℕ) (K L : Kill) (X Y : Exit) (ks : KillSame m K L) (xs : ExitSam
       let h : remaining u < m = lt-of-le-of-lt
       (upTo-le (killChild K j) (killChild-le K k j) 32 t) r in
       ways-same _ _ _ _ _ (λ e. refl)
-      (λ e. upTo-same m (exitMember X j) (exitMember Y j) (exitMember-le X x j) (exitMember-same m X Y xs j) 64 u h
+      (λ e.
+      upTo-same m _ _ (exitMember-le X x j) (exitMember-same m X Y xs j) 64 u h
       ∙ ap (upTo 64 (exitMember Y j))
-      (upTo-same m (killChild K j) (killChild L j) (killChild-le K k j) (killChild-same m K L ks j) 32 t r))
+      (upTo-same m _ _ (killChild-le K k j) (killChild-same m K L ks j) 32 t r))
 
   killStep-same : (t : Tables) (j : ℕ) → remaining t ≤ m → killStep K X t j ≡ killStep L Y t j
   unfolding killStep
@@ -111,16 +110,17 @@ module _ (m : ℕ) (K L : Kill) (X Y : Exit) (ks : KillSame m K L) (xs : ExitSam
 -- ---- More depth does not matter --------------------------------------------------------------
 
 within-same : (n m : ℕ)
-    → ((t : Tables) (j : ℕ) → remaining t < n → remaining t < m → killWithin n t j ≡ killWithin m t j)
+    → ((t : Tables) (j : ℕ) → remaining t < n → remaining t < m
+    → killWithin n t j ≡ killWithin m t j)
     × ((t : Tables) (p : ℕ) (code : ℤ) → remaining t < n → remaining t < m
-      → exitWithin n t p code ≡ exitWithin m t p code)
+    → exitWithin n t p code ≡ exitWithin m t p code)
 unfolding killWithin
 within-same zero m = (λ t j a b. absurd (omega arith), λ t p code a b. absurd (omega arith))
 within-same (suc n) zero = (λ t j a b. absurd (omega arith), λ t p code a b. absurd (omega arith))
 within-same (suc n) (suc m) =
     let h = within-same n m in (
       λ t j a b. killStep-same (remaining t) (killWithin n) (killWithin m) (exitWithin n)
-      (exitWithin m)
+          (exitWithin m)
           (λ u c r. h .0 u c (omega arith) (omega arith))
           (λ u p code r. h .1 u p code (omega arith) (omega arith))
           (killWithin-le n) (exitWithin-le n) t j (le-refl (remaining t)),

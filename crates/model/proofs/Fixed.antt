@@ -1,14 +1,14 @@
 -- What no cascade changes, and what it never takes back: instances of `Keeps`, once for killing,
 -- exiting and ending.
 --     Cascade t u        u is what a cascade made of t
---     job-stays, process-stays, thread-stays     what each change of a record keeps, is kept of every record
---     job-same, process-same, thread-same        a part of a record that no change touches
+--     job-stays, process-stays, thread-stays    what a change of one record keeps, of every record
+--     job-same, process-same, thread-same       a part of a record that no change touches
 -- Assumes nothing.
 use Prim.Native.Nat.{ℕ}
 use mathlib.Core.Path.{_≡_, refl, sym, _∙_, subst}
 use mathlib.Core.Bool.{true}
 use lib.IntN.{ℤ}
-use Rattle.laws.proofs.Cases.{and-left, if-on}
+use Rattle.laws.proofs.Cases.{if-on}
 use Rattle.record_job.specs.declared.Job.{Job}
 use Rattle.record_job.specs.Job.{killed, terminated}
 use Rattle.record_process.specs.declared.Status.{Status}
@@ -19,15 +19,16 @@ use Rattle.record_thread.specs.declared.Thread.{Thread}
 use Rattle.record_thread.specs.Thread.{dying, kill}
 use Rattle.records.specs.declared.tables.Tables.{Tables}
 use Rattle.records.specs.Tables.{jobAt, processAt, threadAt}
-use Rattle.model.specs.Job.{jobEmpty, mayTerminate, stopIn, isLiveJob, isLiveProcess}
-use Rattle.model.specs.Job.{killListed, exitListed, killJob, exitProcess, endProcess}
+use Rattle.model.specs.Job.{stopIn, isLiveJob, isLiveProcess, killListed, exitListed, killJob}
+use Rattle.model.specs.Job.{exitProcess, endProcess}
 use Rattle.model.proofs.TaskTables.{onJob, onProcess}
 use Rattle.model.proofs.Cross.{jobAt-putProcess, processAt-putJob, threadAt-putJob}
 use Rattle.model.proofs.Cross.{threadAt-putProcess}
 use Rattle.model.proofs.ThreadMaps.{threadAt-stopThreads, jobAt-stopThreads}
 use Rattle.model.proofs.ThreadMaps.{processAt-stopThreads, kill-keeps}
-use Rattle.model.proofs.Keeps.{Stores, anywhere, stores, killJob-keeps, exitProcess-keeps}
-use Rattle.model.proofs.Keeps.{endProcess-keeps}
+use Rattle.model.proofs.Lists.{may-killed}
+use Rattle.model.proofs.Stores.{Stores, anywhere, stores}
+use Rattle.model.proofs.Keeps.{killJob-keeps, exitProcess-keeps, endProcess-keeps}
 use Rattle.model.proofs.Keeps.{killListed-keeps, exitListed-keeps}
 
 -- u has all that t has and that each store of a cascade keeps
@@ -56,10 +57,6 @@ cascade-exitListed t p h P s =
     exitListed-keeps P anywhere s killJob (killJob-keeps P anywhere s) t p tt h
 
 -- ---- Records ---------------------------------------------------------------------------------
-
-pub may-killed : (t : Tables) (j : ℕ) → mayTerminate t j ≡ true → jobAt t j .killed ≡ true
-unfolding mayTerminate
-may-killed t j e = and-left (jobAt t j .killed) (jobEmpty t j) e
 
 pub job-stays : (Q : Job → Type 0) → ((v : Job) → isLiveJob v ≡ true → Q v → Q (killed v))
     → ((v : Job) → v .killed ≡ true → Q v → Q (terminated v))
@@ -100,7 +97,8 @@ thread-stays Q m t u c i =
     (λ w j e x. subst Q (sym (threadAt-putJob w j _ i)) x)
     (λ w p code e x. subst Q (sym (threadAt-putProcess w p _ i)) x)
     (λ w p x. subst Q (sym (threadAt-putProcess w p _ i)) x)
-    (λ w p e l x. subst Q (sym (threadAt-stopThreads w p i)) (if-on Q _ _ _ (λ h. m (threadAt w i) x) (λ h. x))))
+    (λ w p e l x.
+    subst Q (sym (threadAt-stopThreads w p i)) (if-on Q _ _ _ (λ h. m (threadAt w i) x) (λ h. x))))
 
 -- ---- Parts of records ------------------------------------------------------------------------
 

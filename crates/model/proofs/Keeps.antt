@@ -1,107 +1,32 @@
--- What each single store of a cascade keeps, the whole cascade keeps, at any depth: one theorem for
--- counts, lengths, fixed fields, marks that stay, and records that a cascade leaves alone. A store
--- comes with the fact under which it happens, and with what is known of the names that the cascade
--- reached it by (`Reach`). Assumes nothing.
+-- What each single store of a cascade keeps (`Stores`), the whole cascade keeps, at any depth: one
+-- theorem for counts, lengths, fixed fields, marks that stay, and records that a cascade leaves
+-- alone. Assumes nothing.
 use Prim.Native.Nat.{ℕ, zero, suc}
 use mathlib.Core.Path.{_≡_, refl, ap}
 use mathlib.Core.Bool.{Bool, true, false}
 use lib.IntN.{ℤ}
-use Rattle.laws.proofs.Cases.{ite-on, if-on, and-true}
+use Rattle.laws.proofs.Cases.{ite-on, if-on}
 use Rattle.record_job.specs.declared.Parent.{Parent}
 use Rattle.record_job.specs.declared.Parent.the-variants.{Orphan, ChildOf}
 use Rattle.record_job.specs.declared.Job.{Job}
-use Rattle.record_job.specs.Job.{killed, terminated, childOf}
+use Rattle.record_job.specs.Job.{killed, terminated}
 use Rattle.record_process.specs.declared.Critical.{Critical}
 use Rattle.record_process.specs.declared.Critical.the-variants.{Free, To}
 use Rattle.record_process.specs.declared.Status.the-variants.{Exited}
 use Rattle.record_process.specs.declared.Process.{Process}
 use Rattle.record_process.specs.Process.{KILL-CODE, isExited, codeOf, withStatus, ended, acts}
-use Rattle.record_process.specs.Process.{memberOf}
 use Rattle.records.specs.declared.tables.Tables.{Tables}
-use Rattle.records.specs.Tables.{jobAt, processAt, putJob, putProcess}
-use Rattle.model.specs.Job.{jobEmpty, listsThread, onParent, mayTerminate, terminateUp}
-use Rattle.model.specs.Job.{terminateJob}
-use Rattle.model.specs.Job.{stopThreads, upTo, isLiveJob, isLiveProcess, killChild}
-use Rattle.model.specs.Job.{exitMember, killListed}
-use Rattle.model.specs.Job.{killStep, killBound, unlistProcess, endStep, exitListed, exitStep}
-use Rattle.model.specs.Job.{killWithin}
+use Rattle.record_thread.specs.Thread.{finish}
+use Rattle.records.specs.Tables.{jobAt, processAt, threadAt, putJob, putProcess, putThread}
+use Rattle.model.specs.Job.{listsThread, onParent, mayTerminate, terminateUp, terminateJob}
+use Rattle.model.specs.Job.{upTo, killChild, exitMember, killListed, killStep, killBound}
+use Rattle.model.specs.Job.{unlistProcess, endStep, exitListed, exitStep, killWithin}
 use Rattle.model.specs.Job.{exitWithin, remaining, killJob, exitProcess, endProcess}
+use Rattle.model.specs.Job.{finishThread}
 use Rattle.model.proofs.TaskTables.{putJob-made, putProcess-made}
+use Rattle.model.proofs.Stores.{Reach, Stores}
+use Rattle.model.proofs.Lists.{may-terminate}
 use Rattle.model.proofs.Live.{live-job-made, live-process-made}
-
--- the names of the jobs and of the processes that a cascade reaches, the codes that it gives, and
--- what is known of a process as it ends
-pub record Reach : Type 1 where
-  pub job : ℕ → Type 0
-  pub process : ℕ → Type 0
-  pub code : ℤ → Type 0
-  pub ending : Tables → ℕ → Type 0
-
-abbrev pub anywhere : Reach
-anywhere =
-    record {
-      job = λ j. Unit {0};
-      process = λ p. Unit {0};
-      code = λ z. Unit {0};
-      ending = λ t p. Unit {0};
-    }
-
--- P holds after each store if it held before, and from a name reached the cascade goes only to
--- names reached
-pub record Stores (P : Tables → Type 0) (R : Reach) : Type 0 where
-  pub marks : (t : Tables) (j : ℕ) → R .job j → isLiveJob (jobAt t j) ≡ true
-      → P t → P (putJob t j (killed (jobAt t j)))
-  pub terminates : (t : Tables) (j : ℕ) → R .job j → mayTerminate t j ≡ true
-      → P t → P (putJob t j (terminated (jobAt t j)))
-  pub exits : (t : Tables) (p : ℕ) (code : ℤ) → R .process p → R .code code
-      → isLiveProcess (processAt t p) ≡ true
-      → P t → P (putProcess t p (withStatus (processAt t p) (Exited code)))
-  pub ends : (t : Tables) (p : ℕ) → R .process p → R .ending t p
-      → P t → P (putProcess t p (ended (processAt t p)))
-  pub stops : (t : Tables) (p : ℕ) → R .process p → isExited (processAt t p .status) ≡ true
-      → listsThread t p ≡ true
-      → P t → P (stopThreads t p)
-  pub empties : (t : Tables) (p : ℕ) → R .process p → isExited (processAt t p .status) ≡ true
-      → listsThread t p ≡ false
-      → P t → R .ending t p
-  pub kill-code : R .code KILL-CODE
-  pub child : (t : Tables) (j c : ℕ) → R .job j → P t → childOf (jobAt t c) j ≡ true → R .job c
-  pub member : (t : Tables) (j p : ℕ) → R .job j → P t → memberOf (processAt t p) j ≡ true
-      → R .process p
-  pub above : (t : Tables) (j p : ℕ) → R .job j → P t → jobAt t j .parent ≡ ChildOf p
-      → mayTerminate (putJob t j (terminated (jobAt t j))) p ≡ true → R .job p
-  pub home : (t : Tables) (p : ℕ) → R .process p → P t
-      → mayTerminate (putProcess t p (ended (processAt t p))) (processAt t p .job) ≡ true
-      → R .job (processAt t p .job)
-  pub bound-to : (t : Tables) (p j : ℕ) (nonzero : Bool) → R .process p → P t
-      → processAt t p .critical ≡ To j nonzero
-      → acts nonzero (codeOf (processAt t p .status)) ≡ true → R .job j
-
--- where the names do not matter
-pub stores : (P : Tables → Type 0)
-    → ((t : Tables) (j : ℕ) → isLiveJob (jobAt t j) ≡ true → P t → P (putJob t j (killed (jobAt t j))))
-    → ((t : Tables) (j : ℕ) → mayTerminate t j ≡ true → P t → P (putJob t j (terminated (jobAt t j))))
-    → ((t : Tables) (p : ℕ) (code : ℤ) → isLiveProcess (processAt t p) ≡ true
-      → P t → P (putProcess t p (withStatus (processAt t p) (Exited code))))
-    → ((t : Tables) (p : ℕ) → P t → P (putProcess t p (ended (processAt t p))))
-    → ((t : Tables) (p : ℕ) → isExited (processAt t p .status) ≡ true → listsThread t p ≡ true
-      → P t → P (stopThreads t p))
-    → Stores P anywhere
-stores P m d x e s =
-    record {
-      marks = λ t j a. m t j;
-      terminates = λ t j a. d t j;
-      exits = λ t p code a b. x t p code;
-      ends = λ t p a b. e t p;
-      stops = λ t p a. s t p;
-      empties = λ t p a b c y. tt;
-      kill-code = tt;
-      child = λ t j c a y h. tt;
-      member = λ t j p a y h. tt;
-      above = λ t j p a y g h. tt;
-      home = λ t p a y h. tt;
-      bound-to = λ t p j nonzero a y g h. tt;
-    }
 
 -- ---- A parent, and a loop ------------------------------------------------------------------
 
@@ -117,12 +42,6 @@ pub upTo-keeps : (P : Tables → Type 0) (f : ℕ → Tables → Tables)
 unfolding upTo
 upTo-keeps P f h zero t x = x
 upTo-keeps P f h (suc n) t x = h n (upTo n f t) (upTo-keeps P f h n t x)
-
--- a killed job that lists nothing
-pub may-terminate : (t : Tables) (j : ℕ) → jobAt t j .killed ≡ true → jobEmpty t j ≡ true
-    → mayTerminate t j ≡ true
-unfolding mayTerminate
-may-terminate t j h e = and-true h e
 
 -- ---- Step by step --------------------------------------------------------------------------
 
@@ -187,7 +106,8 @@ module _ (P : Tables → Type 0) (R : Reach) (s : Stores P R) where
         (s .exits t p code a b e x)) (λ e. x)
 
     module _ (X : Tables → ℕ → ℤ → Tables)
-        (g : (t : Tables) (p : ℕ) (code : ℤ) → R .process p → R .code code → P t → P (X t p code)) where
+        (g : (t : Tables) (p : ℕ) (code : ℤ) → R .process p → R .code code
+        → P t → P (X t p code)) where
       killChild-keeps : (j : ℕ) → R .job j → (c : ℕ) (t : Tables) → P t → P (killChild K j c t)
       unfolding killChild
       killChild-keeps j a c t x = ite-on P _ _ _ (λ e. k t c (s .child t j c a x e) x) (λ e. x)
@@ -217,12 +137,15 @@ module _ (P : Tables → Type 0) (R : Reach) (s : Stores P R) where
   -- ---- At any depth, and whole ---------------------------------------------------------------
 
   within-keeps : (n : ℕ) → ((t : Tables) (j : ℕ) → R .job j → P t → P (killWithin n t j))
-      × ((t : Tables) (p : ℕ) (code : ℤ) → R .process p → R .code code → P t → P (exitWithin n t p code))
+      × ((t : Tables) (p : ℕ) (code : ℤ) → R .process p → R .code code
+      → P t → P (exitWithin n t p code))
   unfolding killWithin
   within-keeps zero = (λ t j a x. x, λ t p code a b x. x)
   within-keeps (suc n) =
-      let h = within-keeps n in
-      (killStep-keeps (killWithin n) (h .0) (exitWithin n) (h .1), exitStep-keeps (killWithin n) (h .0))
+      let h = within-keeps n in (
+        killStep-keeps (killWithin n) (h .0) (exitWithin n) (h .1),
+        exitStep-keeps (killWithin n) (h .0),
+      )
 
   pub killWithin-keeps : (n : ℕ) (t : Tables) (j : ℕ) → R .job j → P t → P (killWithin n t j)
   killWithin-keeps n = within-keeps n .0
@@ -244,3 +167,13 @@ module _ (P : Tables → Type 0) (R : Reach) (s : Stores P R) where
       → P (endProcess t p)
   unfolding endProcess
   endProcess-keeps t p a l x = endStep-keeps killJob killJob-keeps t p a l x
+
+  -- the thread's own store, and what is known of its process if that ends
+  pub finishThread-keeps : (t : Tables) (n : ℕ) → R .process (threadAt t n .process)
+      → P (putThread t n (finish (threadAt t n)))
+      → (listsThread (putThread t n (finish (threadAt t n))) (threadAt t n .process) ≡ false
+      → R .ending (putThread t n (finish (threadAt t n))) (threadAt t n .process))
+      → P (finishThread t n)
+  unfolding finishThread
+  finishThread-keeps t n a x h =
+      if-on P _ _ _ (λ e. x) (λ e. endProcess-keeps _ _ a (h e) x)

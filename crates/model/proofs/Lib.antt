@@ -2,9 +2,11 @@ pub mod Cases
 pub mod TaskTables
 pub mod SideTables
 pub mod Cross
+pub mod Lists
 pub mod ThreadMaps
 pub mod Lengths
 pub mod Live
+pub mod Stores
 pub mod Keeps
 pub mod Remaining
 pub mod Depth

@@ -1,17 +1,14 @@
 -- The tests that guard the steps of the cascade: a live job is made and not killed, a live process
 -- made and not Exited. Assumes nothing.
-use mathlib.Core.Path.{_≡_, refl, sym}
-use mathlib.Core.Bool.{Bool, true, false, not}
+use mathlib.Core.Path.{_≡_, sym}
+use mathlib.Core.Bool.{true, false, not}
+use borrow.Author.Tests.{not-true}
 use Rattle.laws.proofs.Cases.{and-left, and-right, and-true, and-false}
 use Rattle.laws.proofs.Flow.{and-stops, not-yes, not-no}
 use Rattle.record_job.specs.declared.Job.{Job}
 use Rattle.record_process.specs.declared.Process.{Process}
 use Rattle.record_process.specs.Process.{isExited}
 use Rattle.model.specs.Job.{isLiveJob, isLiveProcess}
-
-not-true : (b : Bool) → not b ≡ true → b ≡ false
-not-true true e = sym e
-not-true false e = refl
 
 -- ---- Jobs ----------------------------------------------------------------------------------
 

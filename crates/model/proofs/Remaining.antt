@@ -18,12 +18,12 @@ use Rattle.record_process.specs.Process.{noProcess, KILL-CODE, withStatus, ende
 use Rattle.records.specs.declared.tables.Tables.{Tables}
 use Rattle.records.specs.Tables.{jobAt, processAt, putJob, putProcess}
 use Rattle.model.specs.Job.{stopThreads, upTo, isLiveJob, isLiveProcess, killChild}
-use Rattle.model.specs.Job.{exitMember}
-use Rattle.model.specs.Job.{unlistProcess, killWithin, exitWithin, count, remaining, killJob}
-use Rattle.model.specs.Job.{exitProcess}
+use Rattle.model.specs.Job.{exitMember, unlistProcess, killWithin, exitWithin, count}
+use Rattle.model.specs.Job.{remaining, killJob, exitProcess}
 use Rattle.model.proofs.Live.{unmade-job, killed-job, unmade-process, exited-process}
-use Rattle.model.proofs.Keeps.{Stores, anywhere, stores, upTo-keeps, unlistProcess-keeps}
-use Rattle.model.proofs.Keeps.{killWithin-keeps, exitWithin-keeps}
+use Rattle.model.proofs.Stores.{Stores, anywhere, stores}
+use Rattle.model.proofs.Keeps.{upTo-keeps, unlistProcess-keeps, killWithin-keeps}
+use Rattle.model.proofs.Keeps.{exitWithin-keeps}
 
 -- ---- The count of a list after a store -----------------------------------------------------
 
@@ -67,14 +67,18 @@ pub mark-lt : (t : Tables) (j : ℕ) → isLiveJob (jobAt t j) ≡ true
 unfolding remaining jobAt putJob
 mark-lt t j e =
     let v : Job = killed (jobAt t j) in
-    omega (arith, count-set-lt isLiveJob noJob (unmade-job noJob refl) (t .jobs) j v e (killed-job v refl))
+    let z : isLiveJob noJob ≡ false = unmade-job noJob refl in
+    let h : isLiveJob v ≡ false = killed-job v refl in
+    omega (arith, count-set-lt isLiveJob noJob z (t .jobs) j v e h)
 
 pub exit-lt : (t : Tables) (p : ℕ) (code : ℤ) → isLiveProcess (processAt t p) ≡ true
     → remaining (putProcess t p (withStatus (processAt t p) (Exited code))) < remaining t
 unfolding remaining processAt putProcess
 exit-lt t p code e =
     let v : Process = withStatus (processAt t p) (Exited code) in
-    omega (arith, count-set-lt isLiveProcess noProcess (unmade-process noProcess refl) (t .processes) p v e (exited-process v refl))
+    let z : isLiveProcess noProcess ≡ false = unmade-process noProcess refl in
+    let h : isLiveProcess v ≡ false = exited-process v refl in
+    omega (arith, count-set-lt isLiveProcess noProcess z (t .processes) p v e h)
 
 terminated-le : (t : Tables) (j : ℕ) → remaining (putJob t j (terminated (jobAt t j))) ≤ remaining t
 unfolding isLiveJob

@@ -116,7 +116,8 @@ pub keepToken : {B : Type 0} (f : SuspendToken → B) (t : Tables) (i : ℕ) (v 
 unfolding tokenAt putToken
 keepToken f t = tab-keep noToken f (t .tokens)
 
-pub onToken₂ : (Q : SuspendToken → SuspendToken → Type 0) (t u : Tables) (i k : ℕ) (v w : SuspendToken)
+pub onToken₂ : (Q : SuspendToken → SuspendToken → Type 0) (t u : Tables) (i k : ℕ)
+    (v w : SuspendToken)
     → length (t .tokens) ≡ length (u .tokens) → (k ≡ i → Q v w) → Q (tokenAt t k) (tokenAt u k)
     → Q (tokenAt (putToken t i v) k) (tokenAt (putToken u i w) k)
 unfolding tokenAt putToken

@@ -15,17 +15,16 @@ use Rattle.record_process.specs.Process.{isExited, codeOf, withStatus, ended, m
 use Rattle.record_thread.specs.Thread.{threadOf}
 use Rattle.records.specs.declared.tables.Tables.{Tables}
 use Rattle.records.specs.Tables.{jobAt, processAt, threadAt, putJob, putProcess}
-use Rattle.model.specs.Job.{stopThreads, isLiveProcess}
-use Rattle.model.specs.Job.{killStep, exitStep, killJob, exitProcess}
+use Rattle.model.specs.Job.{stopThreads, isLiveProcess, killStep, exitStep, killJob}
+use Rattle.model.specs.Job.{exitProcess}
 use Rattle.model.proofs.TaskTables.{putJob-made, putProcess-made}
 use Rattle.model.proofs.Lengths.{lengths, putJob-lengths, putProcess-lengths}
 use Rattle.model.proofs.Lengths.{stopThreads-lengths}
 use Rattle.model.proofs.Live.{live-job, live-process-made, live-process-unexited}
-use Rattle.model.proofs.Keeps.{stores}
+use Rattle.model.proofs.Stores.{stores}
 use Rattle.model.proofs.Depth.{kill-is, exit-is}
-use Rattle.model.proofs.Fixed.{Cascade, job-stays, process-stays}
-use Rattle.model.proofs.Fixed.{job-same, process-same, thread-same, cascade-killListed}
-use Rattle.model.proofs.Fixed.{cascade-exitListed}
+use Rattle.model.proofs.Fixed.{Cascade, job-stays, process-stays, job-same, process-same}
+use Rattle.model.proofs.Fixed.{thread-same, cascade-killListed, cascade-exitListed}
 
 module _ (t u : Tables) (c : Cascade t u) where
   -- ---- Whole tables --------------------------------------------------------------------------

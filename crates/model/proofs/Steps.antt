@@ -17,14 +17,12 @@ use Rattle.record_process.specs.Process.{KILL-CODE, codeOf, withStatus, acts, m
 use Rattle.records.specs.declared.tables.Tables.{Tables}
 use Rattle.records.specs.Tables.{jobAt, processAt, putJob, putProcess}
 use Rattle.model.specs.Job.{jobEmpty, listsThread, terminateJob, stopThreads, upTo, isLiveJob}
-use Rattle.model.specs.Job.{isLiveProcess}
-use Rattle.model.specs.Job.{killChild, exitMember, killListed, killStep, killBound}
-use Rattle.model.specs.Job.{unlistProcess, endStep}
-use Rattle.model.specs.Job.{exitListed, exitStep, remaining, killJob, exitProcess, endProcess}
+use Rattle.model.specs.Job.{isLiveProcess, killChild, exitMember, killListed, killStep}
+use Rattle.model.specs.Job.{killBound, unlistProcess, endStep, exitListed, exitStep}
+use Rattle.model.specs.Job.{remaining, killJob, exitProcess, endProcess}
 use Rattle.model.proofs.Depth.{kill-is, exit-is}
 use Rattle.model.proofs.Remaining.{mark-lt, exit-lt, unlist-le, upTo-le, killChild-le}
-use Rattle.model.proofs.Remaining.{exitMember-le}
-use Rattle.model.proofs.Remaining.{killJob-le, exitProcess-le}
+use Rattle.model.proofs.Remaining.{exitMember-le, killJob-le, exitProcess-le}
 
 -- ---- One turn of each loop of `kill_job` -----------------------------------------------------
 
@@ -61,7 +59,10 @@ pub record Marked (t : Tables) (j : ℕ) (u : Tables) : Type 0 where
 pub marked : (t : Tables) (j : ℕ) (v r : Job) (u : Tables) → v ≡ jobAt t j → isLiveJob v ≡ true
     → r ≡ killed v → u ≡ putJob t j r → Marked t j u
 marked t j v r u e h f g =
-    record { live = ap isLiveJob (sym e) ∙ h; after = g ∙ ap (putJob t j) (f ∙ ap (λ (w : Job). killed w) e) }
+    record {
+      live = ap isLiveJob (sym e) ∙ h;
+      after = g ∙ ap (putJob t j) (f ∙ ap (λ (w : Job). killed w) e);
+    }
 
 module _ (t : Tables) (j : ℕ) (u : Tables) (m : Marked t j u) where
   kill-step : killListed killJob exitProcess u j ≡ killJob t j
@@ -94,14 +95,14 @@ module _ (t : Tables) (j : ℕ) (u : Tables) (m : Marked t j u) where
       → remaining v < remaining t
   children-lt n v g =
       subst (λ (w : Tables). remaining w < remaining t) (sym g)
-      (lt-of-le-of-lt (upTo-le (killChild killJob j) (killChild-le killJob killJob-le j) n u) marked-lt)
+      (lt-of-le-of-lt (upTo-le _ (killChild-le killJob killJob-le j) n u) marked-lt)
 
 -- the second loop does not raise it
 pub members-le : (j : ℕ) (t : Tables) (n : ℕ) (u : Tables) → u ≡ upTo n (exitMember exitProcess j) t
     → remaining u ≤ remaining t
 members-le j t n u g =
     subst (λ (w : Tables). remaining w ≤ remaining t) (sym g)
-    (upTo-le (exitMember exitProcess j) (exitMember-le exitProcess exitProcess-le j) n t)
+    (upTo-le _ (exitMember-le exitProcess exitProcess-le j) n t)
 
 -- ---- Exiting a process -----------------------------------------------------------------------
 
@@ -148,14 +149,15 @@ module _ (t : Tables) (p : ℕ) (code : ℤ) (u : Tables) (m : Exiting t p code 
 -- ---- Ending a process. u is t without it -----------------------------------------------------
 
 module _ (t : Tables) (p : ℕ) (v : Process) (u : Tables) (e : v ≡ processAt t p)
-(g : u ≡ unlistProcess t p) where
+    (g : u ≡ unlistProcess t p) where
   end-step : (b : Critical) → v .critical ≡ b
       → killBound killJob b (codeOf (v .status)) u ≡ endProcess t p
   unfolding endProcess endStep
   end-step b f =
-      subst (λ (q : Critical). killBound killJob q (codeOf (v .status)) u ≡ endProcess t p) f
-      (subst (λ (w : Tables). killBound killJob (v .critical) (codeOf (v .status)) w ≡ endProcess t p) (sym g)
-      (ap (λ (q : Process). killBound killJob (q .critical) (codeOf (q .status)) (unlistProcess t p)) e))
+      let w : Tables = unlistProcess t p in
+      ap (λ (q : Critical). killBound killJob q (codeOf (v .status)) u) (sym f)
+      ∙ ap (killBound killJob (v .critical) (codeOf (v .status))) g
+      ∙ ap (λ (q : Process). killBound killJob (q .critical) (codeOf (q .status)) w) e
 
   pub end-free : v .critical ≡ Free → u ≡ endProcess t p
   unfolding killBound

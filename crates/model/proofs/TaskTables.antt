@@ -3,7 +3,7 @@
 --     onJob      what was written passes if it is that name, what was there passed
 --     keepJob    a part of the record that the write keeps is kept of every record
 --     onJob₂     two tables of one length, written at one name
---     putJob-here, putJob-made, putJob-else    the record at the name that was written, and at another
+--     putJob-here, putJob-made, putJob-else    the record at the name written, and at another
 -- Assumes nothing.
 use Prim.Native.Nat.{ℕ, _<_}
 use mathlib.Core.Path.{_≡_, refl}

@@ -6,13 +6,14 @@ use mathlib.Core.Bool.{true}
 use mathlib.Core.List.{List, map}
 use Rattle.laws.specs.Choice.{_and_, if_then_else_}
 use Rattle.laws.proofs.Cases.{if-on}
-use Rattle.laws.proofs.Counts.{map-at, any-same}
+use Rattle.laws.proofs.Counts.{map-at}
 use Rattle.record_thread.specs.declared.Thread.{Thread}
 use Rattle.record_thread.specs.Thread.{noThread, threadOf, dying, kill}
 use Rattle.records.specs.declared.tables.Tables.{Tables}
 use Rattle.records.specs.Tables.{jobAt, ownAt, inheritedAt, processAt, fixedAt, threadAt, tokenAt}
 use Rattle.records.specs.Tables.{withThreads}
 use Rattle.model.specs.Job.{listsThread, stopIn, stopThreads}
+use Rattle.model.proofs.Lists.{listsThread-same}
 
 -- ---- Any change of the threads -------------------------------------------------------------
 
@@ -82,8 +83,14 @@ module _ (t : Tables) (p k : ℕ) where
   unfolding tokenAt stopThreads
   tokenAt-stopThreads = refl
 
-pub ruleset past-stopThreads =
-  (jobAt-stopThreads, ownAt-stopThreads, inheritedAt-stopThreads, processAt-stopThreads, fixedAt-stopThreads, tokenAt-stopThreads)
+pub ruleset past-stopThreads = (
+  jobAt-stopThreads,
+  ownAt-stopThreads,
+  inheritedAt-stopThreads,
+  processAt-stopThreads,
+  fixedAt-stopThreads,
+  tokenAt-stopThreads,
+)
 
 -- a part of a thread that a kill keeps
 module _ {B : Type 0} (f : Thread → B) (same : (v : Thread) → f (dying v true) ≡ f v) where
@@ -108,7 +115,5 @@ threadOf-stopThreads t p n q =
 
 pub listsThread-stopThreads : (t : Tables) (p q : ℕ)
     → listsThread (stopThreads t p) q ≡ listsThread t q
-unfolding listsThread threadAt threadOf _and_
 listsThread-stopThreads t p q =
-    any-same (λ (v : Thread). threadOf v q) (λ (v : Thread). threadOf v q) noThread
-    (stopThreads t p .threads) (t .threads) refl refl (λ n. threadOf-stopThreads t p n q)
+    listsThread-same (stopThreads t p) t q (λ n. threadOf-stopThreads t p n q)

@@ -19,8 +19,7 @@ use Rattle.record_thread.specs.Thread.{finish}
 use Rattle.records.specs.declared.tables.Tables.{Tables}
 use Rattle.records.specs.Tables.{jobAt, processAt, threadAt, putJob, putProcess, putThread}
 use Rattle.model.specs.Job.{listsThread, onParent, isAbove, mayTerminate, terminateUp}
-use Rattle.model.specs.Job.{terminateJob}
-use Rattle.model.specs.Job.{upTo, unlistProcess, endProcess, finishThread}
+use Rattle.model.specs.Job.{terminateJob, upTo, unlistProcess, endProcess, finishThread}
 
 -- ---- A parent --------------------------------------------------------------------------------
 
