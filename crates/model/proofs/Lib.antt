@@ -15,3 +15,4 @@ pub mod Upward
 pub mod Fixed
 pub mod Stays
 pub mod Enough
+pub mod Apart
