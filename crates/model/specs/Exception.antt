@@ -21,12 +21,14 @@ use Rattle.records.specs.declared.reply.Fields.the-variants.{OwnerField}
 use Rattle.records.specs.declared.reply.Reply.{Reply}
 use Rattle.records.specs.Reply.{reply}
 use Rattle.records.specs.Tables.{jobAt, processAt, threadAt, putJob, putProcess, putThread}
+use Rattle.model.specs.declared.Route.{Route}
+use Rattle.model.specs.declared.Route.the-variants.{Ordinary, JobDebuggers, DebuggerOnly, ToExiting, NoType}
+use Rattle.model.specs.declared.Handler.{Handler}
+use Rattle.model.specs.declared.Handler.the-variants.{Nobody, HandlerAt}
+use Rattle.model.specs.declared.Search.{Search}
 use Rattle.model.specs.Job.{onParent, exitProcess}
 
 -- ---- Routes: the eleven types ----------------------------------------------------------------
-
-pub data Route : Type 0 where
-  ordinary jobDebuggers debuggerOnly exiting noType : Route
 
 unfoldable pub isHardware : ℕ → Bool
 isHardware kind =
@@ -35,19 +37,19 @@ isHardware kind =
 -- ThreadStarting 0x8008, ThreadExiting 0x8108, ProcessStarting 0x8308; Synth 0x8000 and PolicyError 0x8208 are ordinary
 unfoldable pub routeOf : ℕ → Route
 routeOf kind =
-    if isHardware kind then ordinary else
-    if (kind =? 0x8000) or (kind =? 0x8208) then ordinary else
-    if kind =? 0x8308 then jobDebuggers else
-    if kind =? 0x8008 then debuggerOnly else
-    if kind =? 0x8108 then exiting else
-    noType
+    if isHardware kind then Ordinary else
+    if (kind =? 0x8000) or (kind =? 0x8208) then Ordinary else
+    if kind =? 0x8308 then JobDebuggers else
+    if kind =? 0x8008 then DebuggerOnly else
+    if kind =? 0x8108 then ToExiting else
+    NoType
 
 abbrev pub isNoType : Route → Bool
-isNoType ordinary = false
-isNoType jobDebuggers = false
-isNoType debuggerOnly = false
-isNoType exiting = false
-isNoType noType = true
+isNoType Ordinary = false
+isNoType JobDebuggers = false
+isNoType DebuggerOnly = false
+isNoType ToExiting = false
+isNoType NoType = true
 
 -- `is_synth`: the bit 0x8000
 abbrev pub isSynth : ℕ → Bool
@@ -92,22 +94,14 @@ passOver t n place = putLevelAt t n place (tried (levelAt t n place))
 
 -- ---- The order of handlers -------------------------------------------------------------------
 
-pub data Handler : Type 0 where
-  nobody : Handler
-  handler : Place → Handler
-
 -- where an exception goes, and the tables with the hung-up levels on the way made unbound
-pub record Search : Type 0 where
-  pub tables : Tables
-  pub at : Handler
-
 abbrev pub noHandler : Tables → Search
-noHandler t = record { tables = t; at = nobody }
+noHandler t = record { tables = t; at = Nobody }
 
 -- delivered at a place, or the search goes on
 unfoldable pub tryAt : Tables → ℕ → Place → (Tables → Search) → Search
 tryAt t n place k =
-    ite (isBound (levelAt t n place)) (λ _. record { tables = t; at = handler place }) λ _. k (passOver t n place)
+    ite (isBound (levelAt t n place)) (λ _. record { tables = t; at = HandlerAt place }) λ _. k (passOver t n place)
 
 -- level 4, or 5, from job j up to the root: k jobs at most
 unfoldable pub searchUp : ℕ → (ℕ → Place) → Tables → ℕ → ℕ → Search
@@ -136,11 +130,11 @@ fromDebugger t n second = tryAt t n Debugger λ u. fromThread u n second
 
 -- the first handler of an exception just raised
 unfoldable pub firstHandler : Route → Tables → ℕ → Search
-firstHandler ordinary t n = fromDebugger t n false
-firstHandler jobDebuggers t n = searchUp 32 OfJobDebugger t n (ownJob t n)
-firstHandler debuggerOnly t n = tryAt t n Debugger noHandler
-firstHandler exiting t n = noHandler t
-firstHandler noType t n = noHandler t
+firstHandler Ordinary t n = fromDebugger t n false
+firstHandler JobDebuggers t n = searchUp 32 OfJobDebugger t n (ownJob t n)
+firstHandler DebuggerOnly t n = tryAt t n Debugger noHandler
+firstHandler ToExiting t n = noHandler t
+firstHandler NoType t n = noHandler t
 
 -- the handler after one that closed without handling; ThreadStarting goes to level 1 only
 unfoldable pub nextHandler : Place → Tables → ℕ → Exception → Search
@@ -176,8 +170,8 @@ unfoldable pub unhandled : Tables → ℕ → ℕ → Tables
 unhandled t n kind = if isSynth kind then overTables t n else exitProcess (overTables t n) (processOf t n) KILL-CODE
 
 unfoldable pub deliver : Handler → Tables → ℕ → ℕ → Bool → Reply
-deliver nobody t n kind second = outcome (unhandled t n kind) NEXT
-deliver (handler place) t n kind second =
+deliver Nobody t n kind second = outcome (unhandled t n kind) NEXT
+deliver (HandlerAt place) t n kind second =
     reply (putThread t n (waits (threadAt t n) BLOCKED-EXCEPTION (InException (exceptionAt kind place second))))
     (pos (levelOf place)) (OwnerField (ownerOf t n place))
 
