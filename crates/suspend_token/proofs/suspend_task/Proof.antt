@@ -1,0 +1,19 @@
+use Rattle.laws.proofs.Flow.{branches}
+use Rattle.model.specs.SuspendToken.{changeTask, suspendTask}
+use borrow.Author.Needs.{needs}
+use Rattle.suspend_token.proofs.suspend_task.Statement.{statement}
+use Rattle.suspend_token.proofs.suspend_task.Tie as tie
+
+pub suspend-task-spec : {M : Type 1} → statement M
+unfolding suspendTask changeTask
+suspend-task-spec =
+    tie.close
+    (tie.spec
+    (λ c κs. search needs)
+    (λ c. search branches)
+    (λ c κs. search needs)
+    (λ c κs. search needs)
+    (λ c κs. search needs)
+    (λ c.
+    let e = simp (c .before .suspend .ensures, c .before .before .thread-at .ensures) at (c .with-thread .ensures) in
+    search (branches, e)))

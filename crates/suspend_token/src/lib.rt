@@ -1,0 +1,52 @@
+// suspend_token: suspending and resuming a task, and tokens. Follows suspend_token.rs, and `suspend` and `resume` of
+// thread.rs and process.rs. Kind 1 is a process: each thread that it lists is concerned; kind 2 is a thread.
+ghost use mathlib.Core.Path.{_≡_};
+ghost use Rattle.model.specs.SuspendToken.{someAt, suspendTask, resumeTask, createToken, dropToken};
+use record_token::Kind;
+use record_token::SuspendToken;
+use records::tables::Tables;
+
+// Whether a thread concerned has this suspend count.
+pub fn some_at(t: Tables, kind: u8, name: u8, count: u16) -> bool
+    ensures { λ r. ⌜ r ≡ someAt t kind name count ⌝ }
+{
+    if kind == Kind::PROCESS {
+        return scans::some_count(t, name, count);
+    }
+    t.thread_at(name).suspends == count
+}
+
+// `Task::suspend`.
+pub fn suspend_task(t: Tables, kind: u8, name: u8) -> Tables
+    ensures { λ r. ⌜ r ≡ suspendTask t kind name ⌝ }
+{
+    if kind == Kind::PROCESS {
+        return scans::suspend_threads(t, name);
+    }
+    t.with_thread(name, t.thread_at(name).suspend())
+}
+
+// `Task::resume`.
+pub fn resume_task(t: Tables, kind: u8, name: u8) -> Tables
+    ensures { λ r. ⌜ r ≡ resumeTask t kind name ⌝ }
+{
+    if kind == Kind::PROCESS {
+        return scans::resume_threads(t, name);
+    }
+    t.with_thread(name, t.thread_at(name).resume())
+}
+
+// Making a token suspends its task.
+pub fn create_token(t: Tables, token: u8, kind: u8, name: u8) -> Tables
+    ensures { λ r. ⌜ r ≡ createToken t token kind name ⌝ }
+{
+    suspend_task(t, kind, name).with_token(token, SuspendToken::new(kind, name))
+}
+
+// Dropping a token resumes its task.
+pub fn drop_token(t: Tables, token: u8, kind: u8, name: u8) -> Tables
+    ensures { λ r. ⌜ r ≡ dropToken t token kind name ⌝ }
+{
+    let dropped = t.token_at(token).drop();
+    resume_task(t, kind, name).with_token(token, dropped)
+}
