@@ -16,3 +16,4 @@ pub mod Fixed
 pub mod Stays
 pub mod Enough
 pub mod Apart
+pub mod Answering

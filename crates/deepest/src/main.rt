@@ -1,0 +1,42 @@
+// deepest: the deepest cascade, for its stack. Writes how many jobs it killed.
+use record_job::Job;
+use record_process::Process;
+use record_process::Status;
+use record_thread::Thread;
+use records::tables::Tables;
+
+// A running process of a job, critical to a job.
+fn critical(job: u8, bound: u8) -> Process {
+    let process = Process::new(job);
+    let running = process.with_status(Status::Running);
+    running.bind_to(bound, false)
+}
+
+// 32 jobs in a chain. Process k of job k is critical to the job above, process 32 + k lists a thread.
+// Process 0 is critical to the lowest job, its own, and process 32 to the root, its own.
+fn chain() -> Tables {
+    let mut t = Tables::fresh();
+    let mut above: u8 = 0;
+    for k in 1..32u8 {
+        t = t.with_job(k, Job::new(above));
+        t = t.with_process(k, critical(k, above));
+        t = t.with_process(32 + k, Process::new(k));
+        t = t.with_thread(k, Thread::new(32 + k));
+        above = k;
+    }
+    t = t.with_process(0, critical(above, above));
+    t.with_process(32, critical(0, 0))
+}
+
+// Process 0 exits: each kill waits for an exit, which waits for an end, which waits for the kill of the job above.
+fn main() {
+    let t = job::exit_process(chain(), 0, 7);
+    let mut killed: u64 = 0;
+    for k in 0..32u8 {
+        let v = t.job_at(k);
+        if v.killed {
+            killed += 1;
+        }
+    }
+    io::print_decimal(libc::STDOUT_FILENO, killed);
+}

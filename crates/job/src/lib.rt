@@ -1,0 +1,112 @@
+// job: killing a job, exiting a process and ending a process, which call one another. Follows job.rs and process.rs.
+// The three hold one copy of the tables each and index none, so that the deepest cascade stays small on the stack.
+ghost use mathlib.Core.Path.{_≡_};
+ghost use Rattle.model.specs.Job.{isLiveJob, isLiveProcess, killJob, exitProcess, endProcess, finishThread};
+use record_job::Job;
+use record_process::Critical;
+use record_process::Process;
+use record_process::Status;
+use records::tables::Tables;
+
+// -- Tests ---------------------------------------------------------------------------------
+
+// Whether a job is made and not killed.
+fn is_live_job(v: Job) -> bool
+    ensures { λ r. ⌜ r ≡ isLiveJob v ⌝ }
+{
+    if v.made {
+        return !v.killed;
+    }
+    false
+}
+
+// Whether a process is made and not Exited.
+fn is_live_process(v: Process) -> bool
+    ensures { λ r. ⌜ r ≡ isLiveProcess v ⌝ }
+{
+    let status = v.status;
+    if v.made {
+        return !status.is_exited();
+    }
+    false
+}
+
+// -- The cascade ---------------------------------------------------------------------------
+
+// `Job::kill`: its children, then its processes, as long as they are listed. A killed job is left alone.
+pub fn kill_job(mut t: Tables, j: u8) -> Tables
+    ensures { λ r. ⌜ r ≡ killJob t j ⌝ }
+{
+    let job = t.job_at(j);
+    if !is_live_job(job) {
+        return t;
+    }
+    t = t.with_job(j, job.killed());
+    if job_lists::job_empty(t, j) {
+        return job_lists::terminate_job(t, j);
+    }
+    for c in 0..32u8 {
+        let child = t.job_at(c);
+        if child.child_of(j) {
+            t = kill_job(t, c);
+        }
+    }
+    for p in 0..64u8 {
+        let process = t.process_at(p);
+        if process.member_of(j) {
+            t = exit_process(t, p, Process::KILL_CODE);
+        }
+    }
+    t
+}
+
+// `Process::exit`: the first code stays. A process that lists no thread ends at once.
+pub fn exit_process(mut t: Tables, p: u8, code: i64) -> Tables
+    ensures { λ r. ⌜ r ≡ exitProcess t p code ⌝ }
+{
+    let process = t.process_at(p);
+    if !is_live_process(process) {
+        return t;
+    }
+    t = t.with_process(p, process.with_status(Status::Exited(code)));
+    if scans::lists_thread(t, p) {
+        return scans::stop_threads(t, p);
+    }
+    end_process(t, p)
+}
+
+// `Process::terminate`: the process leaves its job's list, and the job that it is bound to is killed.
+pub fn end_process(mut t: Tables, p: u8) -> Tables
+    ensures { λ r. ⌜ r ≡ endProcess t p ⌝ }
+{
+    let process = t.process_at(p);
+    let status = process.status;
+    let critical = process.critical;
+    let code = status.code();
+    t = job_lists::unlist_process(t, p);
+    match critical {
+        Critical::Free => t,
+        Critical::To { job, nonzero } => {
+            if record_process::binding_acts(nonzero, code) {
+                kill_job(t, job)
+            } else {
+                t
+            }
+        }
+    }
+}
+
+// -- Threads -------------------------------------------------------------------------------
+
+// `Thread::terminate` and `Process::remove_thread`: the process ends when its last listed thread finishes.
+pub fn finish_thread(mut t: Tables, n: u8) -> Tables
+    ensures { λ r. ⌜ r ≡ finishThread t n ⌝ }
+{
+    let thread = t.thread_at(n);
+    t = t.with_thread(n, thread.finish());
+    let process = thread.process;
+    if scans::lists_thread(t, process) {
+        return t;
+    }
+    end_process(t, process)
+}
