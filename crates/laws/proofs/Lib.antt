@@ -4,3 +4,4 @@ pub mod Tables
 pub mod Loops
 pub mod Signed
 pub mod Counts
+pub mod Within

@@ -17,3 +17,8 @@ pub mod Stays
 pub mod Enough
 pub mod Apart
 pub mod Answering
+pub mod Handlers
+pub mod PartSet
+pub mod Outcomes
+pub mod Refusals
+pub mod Answers

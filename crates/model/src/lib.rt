@@ -2,7 +2,9 @@
 // definitions of exceptions share with the code, and the one function that carries the claims.
 ghost use mathlib.Core.Bool.{true};
 ghost use mathlib.Core.Path.{_≡_};
+ghost use Rattle.model.specs.Answers.{Answers};
 ghost use Rattle.model.specs.Cases.{Cases};
+ghost use Rattle.model.specs.Refusals.{Refusals};
 use record_exception::Place;
 use records::tables::Tables;
 
@@ -30,7 +32,7 @@ pub struct Search {
 
 // Carries the claims as its promise.
 pub fn claims() -> bool
-    ensures { λ r. ⌜ (r ≡ true) × Cases ⌝ }
+    ensures { λ r. ⌜ (r ≡ true) × Cases × Refusals × Answers ⌝ }
 {
     true
 }

@@ -1,0 +1,14 @@
+-- `Answers` from `Outcomes`. Assumes nothing.
+use Rattle.records.specs.declared.tables.Tables.{Tables}
+use Rattle.records.specs.declared.reply.Reply.{Reply}
+use Rattle.model.specs.Step.{Call}
+use Rattle.model.specs.Answers.{Answered, Answers}
+use Rattle.model.proofs.Outcomes.{Outcome, refused, accepted, outcome}
+
+in-row : {t : Tables} {c : Call} (r : Reply) → Outcome t c r → Answered c (r .answer) (r .fields)
+in-row r (refused n f k) = Answered.refused n f
+in-row r (accepted a f h) = Answered.accepted a f
+
+pub answers : Answers
+unfolding Answers
+answers t c = in-row _ (outcome t c)
