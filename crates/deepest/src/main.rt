@@ -12,8 +12,8 @@ fn critical(job: u8, bound: u8) -> Process {
     running.bind_to(bound, false)
 }
 
-// 32 jobs in a chain. Process k of job k is critical to the job above, process 32 + k lists a thread.
-// Process 0 is critical to the lowest job, its own, and process 32 to the root, its own.
+// 32 jobs in a chain. Process k of job k is critical to the job above, process 32 + k lists thread k.
+// Process 0, with thread 0, is critical to the lowest job, its own, and process 32 to the root, its own.
 fn chain() -> Tables {
     let mut t = Tables::fresh();
     let mut above: u8 = 0;
@@ -25,12 +25,15 @@ fn chain() -> Tables {
         above = k;
     }
     t = t.with_process(0, critical(above, above));
+    t = t.with_thread(0, Thread::new(0));
     t.with_process(32, critical(0, 0))
 }
 
-// Process 0 exits: each kill waits for an exit, which waits for an end, which waits for the kill of the job above.
+// Process 0 exits, and ends when its thread finishes. Then each end waits for the kill of a job, which waits for the
+// exit of a process, which waits for its end, up to the root.
 fn main() {
-    let t = job::exit_process(chain(), 0, 7);
+    let mut t = job::exit_process(chain(), 0, 7);
+    t = job::finish_thread(t, 0);
     let mut killed: u64 = 0;
     for k in 0..32u8 {
         let v = t.job_at(k);

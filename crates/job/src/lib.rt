@@ -1,5 +1,5 @@
 // job: killing a job, exiting a process and ending a process, which call one another. Follows job.rs and process.rs.
-// The three hold one copy of the tables each and index none, so that the deepest cascade stays small on the stack.
+// Each of the three has one local of the tables and indexes none: the deepest cascade stays small on the stack.
 ghost use mathlib.Core.Path.{_≡_};
 ghost use Rattle.model.specs.Job.{isLiveJob, isLiveProcess, killJob, exitProcess, endProcess, finishThread};
 use record_job::Job;

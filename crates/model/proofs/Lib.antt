@@ -22,3 +22,11 @@ pub mod PartSet
 pub mod Outcomes
 pub mod Refusals
 pub mod Answers
+pub mod Found
+pub mod Searches
+pub mod Tree
+pub mod Quiet
+pub mod Does
+pub mod Sound
+pub mod Codes
+pub mod StopsWhole

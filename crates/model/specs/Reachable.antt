@@ -79,6 +79,7 @@ pub record Tree (t : Tables) : Type 0 where
       threadAt t n .listed ≡ true
   pub thread-unlisted : (n : ℕ) → threadAt t n .listed ≡ true → (threadAt t n .state =? DEAD) ≡ false
   pub dead-idle : (n : ℕ) → threadAt t n .state ≡ DEAD → threadAt t n .waiting ≡ NotWaiting
+  pub dead-started : (n : ℕ) → threadAt t n .state ≡ DEAD → threadAt t n .started ≡ true
   -- a job's handler that has an exception is at or above the thread's own job
   pub handler-above : (n j : ℕ) (e : Exception) → threadAt t n .waiting ≡ InException e → e .place ≡ OfJob j →
       AtOrAbove t j (processAt t (threadAt t n .process) .job)

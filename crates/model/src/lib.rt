@@ -4,7 +4,9 @@ ghost use mathlib.Core.Bool.{true};
 ghost use mathlib.Core.Path.{_≡_};
 ghost use Rattle.model.specs.Answers.{Answers};
 ghost use Rattle.model.specs.Cases.{Cases};
+ghost use Rattle.model.specs.Reachable.{Reachable};
 ghost use Rattle.model.specs.Refusals.{Refusals};
+ghost use Rattle.model.specs.StopsWhole.{StopsWhole};
 use record_exception::Place;
 use records::tables::Tables;
 
@@ -32,7 +34,7 @@ pub struct Search {
 
 // Carries the claims as its promise.
 pub fn claims() -> bool
-    ensures { λ r. ⌜ (r ≡ true) × Cases × Refusals × Answers ⌝ }
+    ensures { λ r. ⌜ (r ≡ true) × Cases × Refusals × Answers × Reachable × StopsWhole ⌝ }
 {
     true
 }
