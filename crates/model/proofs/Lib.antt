@@ -30,3 +30,4 @@ pub mod Does
 pub mod Sound
 pub mod Codes
 pub mod StopsWhole
+pub mod Separation

@@ -14,3 +14,4 @@ pub mod Answers
 pub mod StopsWhole
 pub mod Closings
 pub mod Separation
+pub mod SeparationRows

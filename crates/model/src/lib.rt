@@ -6,6 +6,8 @@ ghost use Rattle.model.specs.Answers.{Answers};
 ghost use Rattle.model.specs.Cases.{Cases};
 ghost use Rattle.model.specs.Reachable.{Reachable};
 ghost use Rattle.model.specs.Refusals.{Refusals};
+ghost use Rattle.model.specs.Separation.{Separation};
+ghost use Rattle.model.specs.SeparationRows.{SeparationRows};
 ghost use Rattle.model.specs.StopsWhole.{StopsWhole};
 use record_exception::Place;
 use records::tables::Tables;
@@ -34,7 +36,7 @@ pub struct Search {
 
 // Carries the claims as its promise.
 pub fn claims() -> bool
-    ensures { λ r. ⌜ (r ≡ true) × Cases × Refusals × Answers × Reachable × StopsWhole ⌝ }
+    ensures { λ r. ⌜ (r ≡ true) × Cases × Refusals × Answers × Reachable × StopsWhole × Separation × SeparationRows ⌝ }
 {
     true
 }

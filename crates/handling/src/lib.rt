@@ -1,0 +1,155 @@
+// handling: what becomes of a thread that raises an exception, and of one whose handler closes it. Follows `handle` of
+// exception.rs and `handle_exception` of thread.rs.
+ghost use mathlib.Core.Path.{_≡_};
+ghost use Rattle.handling.specs.Handling.{answerOf, isOver};
+ghost use Rattle.model.specs.Exception.{overTables, outcome, unhandled, delivered, raiseExiting, overAtFirst, raise, close};
+use error::ZxError;
+use exception::levels::level_at;
+use exception::levels::owner_of;
+use exception::levels::pass_over;
+use exception::levels::process_of;
+use exception::levels::route_of;
+use exception::search::first_handler;
+use exception::search::next_handler;
+use model::Handler;
+use model::Search;
+use record_exception::Exception;
+use record_exception::ExceptionType;
+use record_exception::Place;
+use record_process::Process;
+use record_thread::ThreadState;
+use record_thread::Waiting;
+use records::reply::Fields;
+use records::reply::Reply;
+use records::tables::Tables;
+
+// The exception is over: the thread runs again, unless Dying.
+fn over_tables(t: Tables, thread: u8) -> Tables
+    ensures { λ r. ⌜ r ≡ overTables t thread ⌝ }
+{
+    t.with_thread(thread, t.thread_at(thread).end_wait())
+}
+
+// An answer with the owner field 0.
+fn outcome(t: Tables, answer: i64) -> Reply
+    ensures { λ r. ⌜ r ≡ outcome t answer ⌝ }
+{
+    Reply::with_fields(t, answer, Fields::OwnerField(0))
+}
+
+// Nobody handled it: types without the bit 0x8000 also exit the process.
+fn unhandled(t: Tables, thread: u8, kind: u16) -> Tables
+    ensures { λ r. ⌜ r ≡ unhandled t thread kind ⌝ }
+{
+    if ExceptionType::SYNTH <= kind {
+        return over_tables(t, thread);
+    }
+    let process = process_of(t, thread);
+    job::exit_process(over_tables(t, thread), process, Process::KILL_CODE)
+}
+
+// The thread waits at the handler found, or goes on where there is none.
+fn deliver(s: Search, thread: u8, kind: u16, second: bool) -> Reply
+    ensures { λ r. ⌜ r ≡ delivered s thread kind second ⌝ }
+{
+    let at = s.at;
+    let t = s.tables;
+    let Handler::HandlerAt(place) = at else {
+        return outcome(unhandled(t, thread, kind), ZxError::NEXT);
+    };
+    let owner = owner_of(t, thread, place);
+    let e = Exception::at(kind, place, second);
+    let v = t.thread_at(thread);
+    let w = v.waits(ThreadState::BLOCKED_EXCEPTION, Waiting::InException(e));
+    Reply::with_fields(
+        t.with_thread(thread, w),
+        answer_of(place),
+        Fields::OwnerField(owner),
+    )
+}
+
+// The level of a place, as an answer.
+fn answer_of(place: Place) -> i64
+    ensures { λ r. ⌜ r ≡ answerOf place ⌝ }
+{
+    match place {
+        Place::Debugger => 1,
+        Place::OwnThread => 2,
+        Place::OwnProcess => 3,
+        Place::SecondChance => 1,
+        Place::OfJob(_) => 4,
+        Place::OfJobDebugger(_) => 5,
+        Place::Exiting => 1,
+    }
+}
+
+// ThreadExiting goes to level 1 and leaves the state; a killed thread sends it and is stopped.
+fn raise_exiting(t: Tables, thread: u8, kind: u16) -> Reply
+    ensures { λ r. ⌜ r ≡ raiseExiting t thread kind ⌝ }
+{
+    if !level_at(t, thread, Place::Exiting).is_bound() {
+        return outcome(pass_over(t, thread, Place::Exiting), ZxError::NEXT);
+    }
+    let v = t.thread_at(thread);
+    if v.killed {
+        return outcome(t, ZxError::STOP);
+    }
+    let e = Exception::at(kind, Place::Exiting, false);
+    let w = v.waits(v.state, Waiting::InException(e));
+    let owner = process_of(t, thread);
+    Reply::with_fields(t.with_thread(thread, w), 1, Fields::OwnerField(owner))
+}
+
+// An exception is raised. Types but ThreadExiting deliver nothing while Dying.
+pub fn raise(t: Tables, thread: u8, kind: u16) -> Reply
+    ensures { λ r. ⌜ r ≡ raise t thread kind ⌝ }
+{
+    if kind == ExceptionType::THREAD_EXITING {
+        return raise_exiting(t, thread, kind);
+    }
+    if t.thread_at(thread).state == ThreadState::DYING {
+        return outcome(t, ZxError::STOP);
+    }
+    deliver(
+        first_handler(route_of(kind), t, thread),
+        thread,
+        kind,
+        false,
+    )
+}
+
+// ProcessStarting and ThreadExiting are over at their first closing.
+fn over_at_first(place: Place) -> bool
+    ensures { λ r. ⌜ r ≡ overAtFirst place ⌝ }
+{
+    match place {
+        Place::Debugger => false,
+        Place::OwnThread => false,
+        Place::OwnProcess => false,
+        Place::SecondChance => false,
+        Place::OfJob(_) => false,
+        Place::OfJobDebugger(_) => true,
+        Place::Exiting => true,
+    }
+}
+
+// Whether a closing ends the exception.
+fn is_over(e: Exception) -> bool
+    ensures { λ r. ⌜ r ≡ isOver e ⌝ }
+{
+    if e.handled {
+        return true;
+    }
+    let place = e.place;
+    over_at_first(place)
+}
+
+// A handler closes its exception.
+pub fn close(t: Tables, thread: u8, e: Exception) -> Reply
+    ensures { λ r. ⌜ r ≡ close t thread e ⌝ }
+{
+    if is_over(e) {
+        return outcome(over_tables(t, thread), 0);
+    }
+    deliver(next_handler(t, thread, e), thread, e.kind, e.second)
+}

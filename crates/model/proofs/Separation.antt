@@ -1,0 +1,30 @@
+-- No trip meddles with another: the relation between two runs, what each store, cascade and search
+-- keeps of it, the calls of one trip in one run and of the other in both, and whole lists.
+pub mod Agree
+pub mod Writes
+pub mod SideWrites
+pub mod Fits
+pub mod Stores
+pub mod CascadeOne
+pub mod Same
+pub mod UpTwo
+pub mod CascadeTwo
+pub mod Frames
+pub mod SearchOne
+pub mod SearchTwo
+pub mod Replied
+pub mod HandlersTwo
+pub mod Lookups
+pub mod Owners
+pub mod Facts
+pub mod Effects
+pub mod JobCallsOne
+pub mod ThreadCallsOne
+pub mod ExceptionCallsOne
+pub mod StepOne
+pub mod JobCallsTwo
+pub mod ThreadCallsTwo
+pub mod ExceptionCallsTwo
+pub mod StepTwo
+pub mod Whole
+pub mod Rows
