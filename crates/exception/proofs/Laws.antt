@@ -8,7 +8,9 @@ use Rattle.laws.specs.Choice.{_or_, _=?_, if_then_else_}
 use Rattle.laws.proofs.Flow.{yes, no, second, or-goes}
 use Rattle.record_exception.specs.declared.Level.{Level}
 use Rattle.record_exception.specs.declared.Place.{Place}
-use Rattle.record_exception.specs.declared.Place.the-variants.{Debugger, OwnThread, OwnProcess, SecondChance, OfJob, OfJobDebugger, Exiting}
+use Rattle.record_exception.specs.declared.Place.the-variants.{Debugger, OwnThread, OwnProcess}
+use Rattle.record_exception.specs.declared.Place.the-variants.{SecondChance, OfJob, OfJobDebugger}
+use Rattle.record_exception.specs.declared.Place.the-variants.{Exiting}
 use Rattle.record_exception.specs.Channel.{isBound, tried}
 use Rattle.record_exception.specs.Exception.{levelOf}
 use Rattle.record_job.specs.declared.Parent.{Parent}
@@ -21,7 +23,8 @@ use Rattle.model.specs.declared.Route.the-variants.{NoType}
 use Rattle.model.specs.declared.Handler.the-variants.{HandlerAt}
 use Rattle.model.specs.declared.Search.{Search}
 use Rattle.model.specs.Job.{onParent}
-use Rattle.model.specs.Exception.{isHardware, routeOf, ownerOf, levelAt, putLevelAt, passOver, noHandler, tryAt, searchUp}
+use Rattle.model.specs.Exception.{isHardware, routeOf, ownerOf, levelAt, putLevelAt, passOver}
+use Rattle.model.specs.Exception.{noHandler, tryAt, searchUp}
 
 -- ---- Routes --------------------------------------------------------------------------------
 

@@ -1,7 +1,8 @@
 // search.rt: the handler of an exception just raised, and the one after a handler that closed.
 ghost use mathlib.Core.Path.{_≡_};
 ghost use Rattle.exception.specs.Places.{jobPlace, aboveJob, afterDebugger};
-ghost use Rattle.model.specs.Exception.{searchUp, ownJob, fromJobs, fromSecondChance, fromProcess, fromThread, fromDebugger, firstHandler, nextHandler};
+ghost use Rattle.model.specs.Exception.{searchUp, ownJob, fromJobs, fromSecondChance, fromProcess};
+ghost use Rattle.model.specs.Exception.{fromThread, fromDebugger, firstHandler, nextHandler};
 use crate::levels::level_at;
 use crate::levels::pass_over;
 use crate::levels::process_of;

@@ -1,7 +1,9 @@
 // exception_calls: the calls on exceptions and their channels. Each answers document 01's refusals in its order, and else
 // what its definition in model/specs/ExceptionCalls.antt comes to.
 ghost use mathlib.Core.Path.{_≡_};
-ghost use Rattle.model.specs.ExceptionCalls.{badLevel, bindLevel, hangUpLevel, raiseException, closeException, setState, hasStrategy, setStrategy, getProcessHandle};
+ghost use Rattle.model.specs.ExceptionCalls.{badLevel, bindLevel, hangUpLevel, raiseException};
+ghost use Rattle.model.specs.ExceptionCalls.{closeException, setState, hasStrategy, setStrategy};
+ghost use Rattle.model.specs.ExceptionCalls.{getProcessHandle};
 ghost use Rattle.model.specs.Exception.{isNoType};
 use error::Refusal;
 use error::ZxError;

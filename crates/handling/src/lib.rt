@@ -2,7 +2,8 @@
 // exception.rs and `handle_exception` of thread.rs.
 ghost use mathlib.Core.Path.{_≡_};
 ghost use Rattle.handling.specs.Handling.{answerOf, isOver};
-ghost use Rattle.model.specs.Exception.{overTables, outcome, unhandled, delivered, raiseExiting, overAtFirst, raise, close};
+ghost use Rattle.model.specs.Exception.{overTables, outcome, unhandled, delivered, raiseExiting};
+ghost use Rattle.model.specs.Exception.{overAtFirst, raise, close};
 use error::ZxError;
 use exception::levels::level_at;
 use exception::levels::owner_of;

@@ -1,7 +1,8 @@
 // job: killing a job, exiting a process and ending a process, which call one another. Follows job.rs and process.rs.
 // Each of the three has one local of the tables and indexes none: the deepest cascade stays small on the stack.
 ghost use mathlib.Core.Path.{_≡_};
-ghost use Rattle.model.specs.Job.{isLiveJob, isLiveProcess, killJob, exitProcess, endProcess, finishThread};
+ghost use Rattle.model.specs.Job.{isLiveJob, isLiveProcess, killJob, exitProcess, endProcess};
+ghost use Rattle.model.specs.Job.{finishThread};
 use record_job::Job;
 use record_process::Critical;
 use record_process::Process;

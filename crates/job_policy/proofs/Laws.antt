@@ -16,7 +16,8 @@ use Rattle.laws.proofs.Loops.{zip-at}
 use Rattle.job_policy.specs.declared.JobPolicy.{JobPolicy}
 use Rattle.job_policy.specs.declared.BasicPolicy.{BasicPolicy}
 use Rattle.job_policy.specs.declared.ActionFound.the-variants.{Unset, Action}
-use Rattle.job_policy.specs.Policy.{getAction, apply, mergedAction, merge, ALLOW, DENY, M1, M2, Cases}
+use Rattle.job_policy.specs.Policy.{getAction, apply, mergedAction, merge, ALLOW, DENY, M1}
+use Rattle.job_policy.specs.Policy.{M2, Cases}
 
 abbrev pub policy : List ℕ → JobPolicy
 policy l = record { action = l }

@@ -1,5 +1,6 @@
--- A job's policy: fifteen entries, 0 for none and a + 1 for the action a. Follows job_policy.rs and the page of
--- zx_job_set_policy. A condition of 15 or more has no entry, and an action of 5 or more is no action: nothing is set.
+-- A job's policy: fifteen entries, 0 for none and a + 1 for the action a. Follows job_policy.rs
+-- and the page of zx_job_set_policy. A condition of 15 or more has no entry, and an action of 5 or
+-- more is no action: nothing is set.
 use Prim.Native.Nat.{ℕ, _+_, _-_, _<_}
 use mathlib.Core.Path.{_≡_}
 use lib.ListN.{getD, set, replicate}
@@ -44,7 +45,8 @@ DENY = 1
 unfoldable pub M1 : Type 0
 M1 =
     (own parent : JobPolicy) (c : ℕ) →
-    getAction own c ≡ Action ALLOW → getAction parent c ≡ Action DENY → getAction (merge own parent) c ≡ Action DENY
+    getAction own c ≡ Action ALLOW → getAction parent c ≡ Action DENY →
+    getAction (merge own parent) c ≡ Action DENY
 
 -- M2: of two entries for one condition the later is kept
 unfoldable pub M2 : Type 0

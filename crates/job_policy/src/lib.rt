@@ -2,7 +2,8 @@
 // Conditions, actions and modes are numbers; one outside its list changes nothing and finds nothing.
 ghost use mathlib.Core.Bool.{true};
 ghost use mathlib.Core.Path.{_≡_};
-ghost use Rattle.job_policy.specs.Policy.{noPolicy, getAction, apply, mergedAction, merge, Cases};
+ghost use Rattle.job_policy.specs.Policy.{noPolicy, getAction, apply, mergedAction, merge};
+ghost use Rattle.job_policy.specs.Policy.{Cases};
 ghost use Rattle.job_policy.specs.Slack.{freshSlack, checkTimerPolicy, larger, generateNew};
 use error::ZxError;
 

@@ -7,7 +7,8 @@ use mathlib.Core.Path.{_≡_, refl, sym, _∙_, subst}
 use mathlib.Core.Bool.{Bool, true, false, true≢false}
 use lib.IntN.{ℤ}
 use Rattle.laws.specs.Choice.{_and_, _or_, if_then_else_, ite}
-use Rattle.laws.specs.Guarded.{Result, found, missing, guard, Guarded, ok, _>>=_, _>>_, settle}
+use Rattle.laws.specs.Guarded.{Result, found, missing, guard, Guarded, ok, _>>=_, _>>_}
+use Rattle.laws.specs.Guarded.{settle}
 
 -- ---- One run -------------------------------------------------------------------------------
 

@@ -8,7 +8,8 @@ use mathlib.Core.Bool.{Bool, true, false, not}
 use lib.IntN.{ℤ}
 use borrow.Author.Tests.{le-leb, lt-leb, lt-ltb, le-ltb, eq-eqb, ne-eqb}
 use Rattle.laws.specs.Choice.{_and_, _or_, if_then_else_, ite}
-use Rattle.laws.specs.Guarded.{Result, found, missing, guard, Guarded, ok, _>>=_, _>>_, settle}
+use Rattle.laws.specs.Guarded.{Result, found, missing, guard, Guarded, ok, _>>=_, _>>_}
+use Rattle.laws.specs.Guarded.{settle}
 
 -- ---- Guards --------------------------------------------------------------------------------
 

@@ -1,4 +1,5 @@
--- How the definition of a call is written: guards in the order of document 01's table, and one effect at the foot.
+-- How the definition of a call is written: guards in the order of document 01's table, and one
+-- effect at the foot.
 --     refuse 104 when b       the call ends with 104 if b holds, and goes on if not
 --     deny BAD-STATE when b   the same, with a number of error.rs
 --     x ← lookup              the call ends with the lookup's number, or goes on with the record x

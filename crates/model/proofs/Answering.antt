@@ -36,7 +36,8 @@ use Rattle.owners.specs.declared.FoundLevel.{FoundLevel}
 use Rattle.owners.specs.declared.FoundLevel.the-variants.{NoLevel, OldLevel}
 use Rattle.owners.specs.declared.FoundTask.{FoundTask}
 use Rattle.owners.specs.declared.FoundTask.the-variants.{NoTask, OldTask}
-use Rattle.model.specs.Replies.{call, oldJob, oldProcess, oldThread, oldToken, heldException, oldLevel, oldTask}
+use Rattle.model.specs.Replies.{call, oldJob, oldProcess, oldThread, oldToken, heldException}
+use Rattle.model.specs.Replies.{oldLevel, oldTask}
 
 -- ---- Guards and the foot -----------------------------------------------------------------------
 

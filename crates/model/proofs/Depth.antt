@@ -16,10 +16,13 @@ use Rattle.record_process.specs.declared.Status.the-variants.{Exited}
 use Rattle.record_process.specs.Process.{KILL-CODE, withStatus, acts}
 use Rattle.records.specs.declared.tables.Tables.{Tables}
 use Rattle.records.specs.Tables.{jobAt, processAt, putJob, putProcess}
-use Rattle.model.specs.Job.{upTo, isLiveJob, isLiveProcess, killChild, exitMember, killListed}
-use Rattle.model.specs.Job.{killStep, killBound, unlistProcess, endStep, exitListed, exitStep}
+use Rattle.model.specs.Job.{upTo, isLiveJob, isLiveProcess, killChild, exitMember}
+use Rattle.model.specs.Job.{killListed}
+use Rattle.model.specs.Job.{killStep, killBound, unlistProcess, endStep, exitListed}
+use Rattle.model.specs.Job.{exitStep}
 use Rattle.model.specs.Job.{killWithin, exitWithin, remaining, killJob, exitProcess}
-use Rattle.model.proofs.Remaining.{mark-lt, exit-lt, unlist-le, killWithin-le, exitWithin-le}
+use Rattle.model.proofs.Remaining.{mark-lt, exit-lt, unlist-le, killWithin-le}
+use Rattle.model.proofs.Remaining.{exitWithin-le}
 use Rattle.model.proofs.Remaining.{upTo-le, killChild-le, exitMember-le}
 
 abbrev Kill : Type 0

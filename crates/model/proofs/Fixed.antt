@@ -19,7 +19,8 @@ use Rattle.record_thread.specs.declared.Thread.{Thread}
 use Rattle.record_thread.specs.Thread.{dying, kill}
 use Rattle.records.specs.declared.tables.Tables.{Tables}
 use Rattle.records.specs.Tables.{jobAt, processAt, threadAt}
-use Rattle.model.specs.Job.{stopIn, isLiveJob, isLiveProcess, killListed, exitListed, killJob}
+use Rattle.model.specs.Job.{stopIn, isLiveJob, isLiveProcess, killListed, exitListed}
+use Rattle.model.specs.Job.{killJob}
 use Rattle.model.specs.Job.{exitProcess, endProcess}
 use Rattle.model.proofs.TaskTables.{onJob, onProcess}
 use Rattle.model.proofs.Cross.{jobAt-putProcess, processAt-putJob, threadAt-putJob}

@@ -10,7 +10,8 @@ use Rattle.record_process.specs.declared.Process.{Process}
 use Rattle.record_thread.specs.declared.Thread.{Thread}
 use Rattle.record_token.specs.declared.SuspendToken.{SuspendToken}
 use Rattle.records.specs.declared.tables.Tables.{Tables}
-use Rattle.records.specs.Tables.{freshTables, withThreads, putJob, putOwn, putInherited, putProcess}
+use Rattle.records.specs.Tables.{freshTables, withThreads, putJob, putOwn, putInherited}
+use Rattle.records.specs.Tables.{putProcess}
 use Rattle.records.specs.Tables.{putFixed, putThread, putToken}
 use Rattle.model.specs.Job.{stopThreads}
 

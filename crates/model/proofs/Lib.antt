@@ -31,3 +31,4 @@ pub mod Sound
 pub mod Codes
 pub mod StopsWhole
 pub mod Separation
+pub mod Closings

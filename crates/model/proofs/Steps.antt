@@ -16,7 +16,8 @@ use Rattle.record_process.specs.declared.Process.{Process}
 use Rattle.record_process.specs.Process.{KILL-CODE, codeOf, withStatus, acts, memberOf}
 use Rattle.records.specs.declared.tables.Tables.{Tables}
 use Rattle.records.specs.Tables.{jobAt, processAt, putJob, putProcess}
-use Rattle.model.specs.Job.{jobEmpty, listsThread, terminateJob, stopThreads, upTo, isLiveJob}
+use Rattle.model.specs.Job.{jobEmpty, listsThread, terminateJob, stopThreads, upTo}
+use Rattle.model.specs.Job.{isLiveJob}
 use Rattle.model.specs.Job.{isLiveProcess, killChild, exitMember, killListed, killStep}
 use Rattle.model.specs.Job.{killBound, unlistProcess, endStep, exitListed, exitStep}
 use Rattle.model.specs.Job.{remaining, killJob, exitProcess, endProcess}

@@ -6,8 +6,12 @@ use lib.IntN.{ℤ, pos}
 use Rattle.laws.specs.Choice.{minus}
 use Rattle.records.specs.declared.tables.Tables.{Tables}
 use Rattle.records.specs.declared.reply.Fields.{Fields}
-use Rattle.records.specs.declared.reply.Fields.the-variants.{NoFields, OwnerField, JobFields, ProcessFields, ThreadFields}
-use Rattle.model.specs.Step.{Call, cmd01, cmd02, cmd03, cmd04, cmd05, cmd06, cmd07, cmd08, cmd09, cmd0a, cmd0b, cmd0c, cmd0d, cmd0e, cmd0f, cmd10, cmd11, cmd12, cmd13, cmd14, cmd15, cmd16, cmd17, cmd18, cmd19, cmd1a, cmd1b, cmd1c, cmd1d, cmd1e, cmd1f, step}
+use Rattle.records.specs.declared.reply.Fields.the-variants.{NoFields, OwnerField, JobFields}
+use Rattle.records.specs.declared.reply.Fields.the-variants.{ProcessFields, ThreadFields}
+use Rattle.model.specs.Step.{Call, cmd01, cmd02, cmd03, cmd04, cmd05, cmd06, cmd07, cmd08}
+use Rattle.model.specs.Step.{cmd09, cmd0a, cmd0b, cmd0c, cmd0d, cmd0e, cmd0f, cmd10, cmd11}
+use Rattle.model.specs.Step.{cmd12, cmd13, cmd14, cmd15, cmd16, cmd17, cmd18, cmd19, cmd1a}
+use Rattle.model.specs.Step.{cmd1b, cmd1c, cmd1d, cmd1e, cmd1f, step}
 
 -- the shapes of the fields after an answer
 pub data Shape : Type 0 where
@@ -55,13 +59,18 @@ rowOf (cmd11 p c) = plain (pos 104 ∷ pos 101 ∷ pos 103 ∷ pos 106 ∷ minus
 rowOf (cmd12 l n) = plain (pos 104 ∷ pos 101 ∷ pos 103 ∷ minus 20 ∷ minus 27 ∷ [])
 rowOf (cmd13 l n) = plain (pos 104 ∷ pos 101 ∷ pos 103 ∷ pos 105 ∷ [])
 rowOf (cmd14 n k) =
-    row (pos 104 ∷ pos 101 ∷ pos 103 ∷ pos 105 ∷ []) (pos 1 ∷ pos 2 ∷ pos 3 ∷ pos 4 ∷ pos 5 ∷ minus 60 ∷ minus 61 ∷ []) owner
-rowOf (cmd15 n) = row (pos 101 ∷ pos 103 ∷ pos 105 ∷ []) (pos 0 ∷ pos 1 ∷ pos 2 ∷ pos 3 ∷ pos 4 ∷ minus 61 ∷ []) owner
+    row (pos 104 ∷ pos 101 ∷ pos 103 ∷ pos 105 ∷ []) (pos 1 ∷ pos 2 ∷ pos 3 ∷ pos 4 ∷ pos 5 ∷
+    minus 60 ∷ minus 61 ∷ []) owner
+rowOf (cmd15 n) =
+    row (pos 101 ∷ pos 103 ∷ pos 105 ∷ [])
+    (pos 0 ∷ pos 1 ∷ pos 2 ∷ pos 3 ∷ pos 4 ∷ minus 61 ∷ []) owner
 rowOf (cmd16 n s) = plain (pos 101 ∷ pos 103 ∷ pos 105 ∷ minus 10 ∷ [])
 rowOf (cmd17 n s) = plain (pos 101 ∷ pos 103 ∷ pos 105 ∷ minus 10 ∷ minus 20 ∷ [])
 rowOf (cmd18 n) = plain (pos 101 ∷ pos 103 ∷ pos 105 ∷ minus 30 ∷ [])
 rowOf (cmd19 n s) = row (pos 104 ∷ pos 101 ∷ pos 103 ∷ pos 105 ∷ []) (pos 0 ∷ minus 60 ∷ []) bare
-rowOf (cmd1a n r) = row (pos 104 ∷ pos 101 ∷ pos 103 ∷ pos 105 ∷ []) (pos 0 ∷ minus 60 ∷ minus 21 ∷ minus 23 ∷ minus 22 ∷ []) bare
+rowOf (cmd1a n r) =
+    row (pos 104 ∷ pos 101 ∷ pos 103 ∷ pos 105 ∷ [])
+    (pos 0 ∷ minus 60 ∷ minus 21 ∷ minus 23 ∷ minus 22 ∷ []) bare
 rowOf (cmd1b j) = row (pos 101 ∷ pos 103 ∷ []) (pos 0 ∷ []) ofJob
 rowOf (cmd1c p) = row (pos 101 ∷ pos 103 ∷ []) (pos 0 ∷ []) ofProcess
 rowOf (cmd1d n) = row (pos 101 ∷ pos 103 ∷ []) (pos 0 ∷ []) ofThread
@@ -75,7 +84,8 @@ pub data OneOf (z : ℤ) : List ℤ → Type 0 where
 -- refused with no field, or accepted with the command's fields
 pub data Answered (c : Call) (answer : ℤ) (fields : Fields) : Type 0 where
   refused : OneOf answer (rowOf c .refusals) → fields ≡ NoFields → Answered c answer fields
-  accepted : OneOf answer (rowOf c .answers) → shapeOf fields ≡ rowOf c .fields → Answered c answer fields
+  accepted : OneOf answer (rowOf c .answers) → shapeOf fields ≡ rowOf c .fields →
+      Answered c answer fields
 
 unfoldable pub Answers : Type 0
 Answers = (t : Tables) (c : Call) → Answered c (step t c .answer) (step t c .fields)

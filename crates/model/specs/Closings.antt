@@ -1,4 +1,5 @@
--- An exception is over after at most 36 closings: four levels and 32 jobs, whatever other calls come between.
+-- An exception is over after at most 36 closings: four levels and 32 jobs, whatever other calls
+-- come between.
 use Prim.Native.Nat.{ℕ, suc, _<_}
 use mathlib.Core.Path.{_≡_}
 use mathlib.Core.Logic.{_≢_}
@@ -16,8 +17,10 @@ Held t n = (e : Exception) × (threadAt t n .waiting ≡ InException e)
 -- the exception of thread n in t still waits after these calls, closed k times on the way
 pub data Waits (n : ℕ) : Tables → List Call → ℕ → Type 0 where
   still : {t : Tables} → Held t n → Waits n t [] 0
-  between : {t : Tables} {c : Call} {l : List Call} {k : ℕ} → c ≢ cmd15 n → Held t n → Waits n (step t c .tables) l k → Waits n t (c ∷ l) k
-  closed : {t : Tables} {l : List Call} {k : ℕ} → Held t n → Waits n (step t (cmd15 n) .tables) l k → Waits n t (cmd15 n ∷ l) (suc k)
+  between : {t : Tables} {c : Call} {l : List Call} {k : ℕ} → c ≢ cmd15 n → Held t n →
+      Waits n (step t c .tables) l k → Waits n t (c ∷ l) k
+  closed : {t : Tables} {l : List Call} {k : ℕ} → Held t n →
+      Waits n (step t (cmd15 n) .tables) l k → Waits n t (cmd15 n ∷ l) (suc k)
 
 -- from a raise on any reachable state
 unfoldable pub Closings : Type 0

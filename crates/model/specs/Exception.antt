@@ -1,5 +1,6 @@
 -- Exceptions: which handlers are tried, in which order, and what becomes of the thread.
--- Follows exception.rs, `handle_exception` of thread.rs and the page of exceptions. A place stands for the Rust's iterators.
+-- Follows exception.rs, `handle_exception` of thread.rs and the page of exceptions. A place stands
+-- for the Rust's iterators.
 use Prim.Native.Nat.{ℕ, zero, suc}
 use mathlib.Core.Bool.{Bool, true, false, not}
 use lib.IntN.{ℤ, pos}
@@ -7,7 +8,9 @@ use Rattle.laws.specs.Choice.{_≤?_, _=?_, _or_, if_then_else_, ite}
 use Rattle.error.specs.Numbers.{STOP, NEXT}
 use Rattle.record_exception.specs.declared.Level.{Level}
 use Rattle.record_exception.specs.declared.Place.{Place}
-use Rattle.record_exception.specs.declared.Place.the-variants.{Debugger, OwnThread, OwnProcess, SecondChance, OfJob, OfJobDebugger, Exiting}
+use Rattle.record_exception.specs.declared.Place.the-variants.{Debugger, OwnThread, OwnProcess}
+use Rattle.record_exception.specs.declared.Place.the-variants.{SecondChance, OfJob, OfJobDebugger}
+use Rattle.record_exception.specs.declared.Place.the-variants.{Exiting}
 use Rattle.record_exception.specs.declared.Exception.{Exception}
 use Rattle.record_exception.specs.Channel.{isBound, tried}
 use Rattle.record_exception.specs.Exception.{levelOf, exceptionAt}
@@ -22,7 +25,8 @@ use Rattle.records.specs.declared.reply.Reply.{Reply}
 use Rattle.records.specs.Reply.{reply}
 use Rattle.records.specs.Tables.{jobAt, processAt, threadAt, putJob, putProcess, putThread}
 use Rattle.model.specs.declared.Route.{Route}
-use Rattle.model.specs.declared.Route.the-variants.{Ordinary, JobDebuggers, DebuggerOnly, ToExiting, NoType}
+use Rattle.model.specs.declared.Route.the-variants.{Ordinary, JobDebuggers, DebuggerOnly}
+use Rattle.model.specs.declared.Route.the-variants.{ToExiting, NoType}
 use Rattle.model.specs.declared.Handler.{Handler}
 use Rattle.model.specs.declared.Handler.the-variants.{Nobody, HandlerAt}
 use Rattle.model.specs.declared.Search.{Search}
@@ -32,9 +36,11 @@ use Rattle.model.specs.Job.{onParent, exitProcess}
 
 unfoldable pub isHardware : ℕ → Bool
 isHardware kind =
-    (kind =? 0x008) or (kind =? 0x108) or (kind =? 0x208) or (kind =? 0x308) or (kind =? 0x408) or (kind =? 0x508)
+    (kind =? 0x008) or (kind =? 0x108) or (kind =? 0x208) or (kind =? 0x308)
+    or (kind =? 0x408) or (kind =? 0x508)
 
--- ThreadStarting 0x8008, ThreadExiting 0x8108, ProcessStarting 0x8308; Synth 0x8000 and PolicyError 0x8208 are ordinary
+-- ThreadStarting 0x8008, ThreadExiting 0x8108, ProcessStarting 0x8308; Synth 0x8000 and
+-- PolicyError 0x8208 are ordinary
 unfoldable pub routeOf : ℕ → Route
 routeOf kind =
     if isHardware kind then Ordinary else
@@ -80,13 +86,17 @@ levelAt t n (OfJobDebugger j) = jobAt t j .level5
 levelAt t n Exiting = processAt t (processOf t n) .level1
 
 unfoldable pub putLevelAt : Tables → ℕ → Place → Level → Tables
-putLevelAt t n Debugger l = putProcess t (processOf t n) (withLevel1 (processAt t (processOf t n)) l)
+putLevelAt t n Debugger l =
+    putProcess t (processOf t n) (withLevel1 (processAt t (processOf t n)) l)
 putLevelAt t n OwnThread l = putThread t n (withLevel2 (threadAt t n) l)
-putLevelAt t n OwnProcess l = putProcess t (processOf t n) (withLevel3 (processAt t (processOf t n)) l)
-putLevelAt t n SecondChance l = putProcess t (processOf t n) (withLevel1 (processAt t (processOf t n)) l)
+putLevelAt t n OwnProcess l =
+    putProcess t (processOf t n) (withLevel3 (processAt t (processOf t n)) l)
+putLevelAt t n SecondChance l =
+    putProcess t (processOf t n) (withLevel1 (processAt t (processOf t n)) l)
 putLevelAt t n (OfJob j) l = putJob t j (withLevel4 (jobAt t j) l)
 putLevelAt t n (OfJobDebugger j) l = putJob t j (withLevel5 (jobAt t j) l)
-putLevelAt t n Exiting l = putProcess t (processOf t n) (withLevel1 (processAt t (processOf t n)) l)
+putLevelAt t n Exiting l =
+    putProcess t (processOf t n) (withLevel1 (processAt t (processOf t n)) l)
 
 -- trying a hung-up level makes it unbound
 unfoldable pub passOver : Tables → ℕ → Place → Tables
@@ -101,7 +111,8 @@ noHandler t = record { tables = t; at = Nobody }
 -- delivered at a place, or the search goes on
 unfoldable pub tryAt : Tables → ℕ → Place → (Tables → Search) → Search
 tryAt t n place k =
-    ite (isBound (levelAt t n place)) (λ _. record { tables = t; at = HandlerAt place }) λ _. k (passOver t n place)
+    ite (isBound (levelAt t n place)) (λ _. record { tables = t; at = HandlerAt place })
+    λ _. k (passOver t n place)
 
 -- level 4, or 5, from job j up to the root: k jobs at most
 unfoldable pub searchUp : ℕ → (ℕ → Place) → Tables → ℕ → ℕ → Search
@@ -117,7 +128,8 @@ fromJobs t n = searchUp 32 OfJob t n (ownJob t n)
 
 -- second chance is read when level 3 is left
 unfoldable pub fromSecondChance : Tables → ℕ → Bool → Search
-fromSecondChance t n second = if second then tryAt t n SecondChance (λ u. fromJobs u n) else fromJobs t n
+fromSecondChance t n second =
+    if second then tryAt t n SecondChance (λ u. fromJobs u n) else fromJobs t n
 
 unfoldable pub fromProcess : Tables → ℕ → Bool → Search
 fromProcess t n second = tryAt t n OwnProcess λ u. fromSecondChance u n second
@@ -142,7 +154,8 @@ nextHandler Debugger t n e = if e .kind =? 0x8008 then noHandler t else fromThre
 nextHandler OwnThread t n e = fromProcess t n (e .second)
 nextHandler OwnProcess t n e = fromSecondChance t n (e .second)
 nextHandler SecondChance t n e = fromJobs t n
-nextHandler (OfJob j) t n e = onParent (jobAt t j .parent) (noHandler t) λ i. searchUp 32 OfJob t n i
+nextHandler (OfJob j) t n e =
+    onParent (jobAt t j .parent) (noHandler t) λ i. searchUp 32 OfJob t n i
 nextHandler (OfJobDebugger j) t n e = noHandler t
 nextHandler Exiting t n e = noHandler t
 
@@ -167,23 +180,27 @@ overTables t n = putThread t n (endWait (threadAt t n))
 
 -- nobody handled it: types without the bit 0x8000 also exit the process
 unfoldable pub unhandled : Tables → ℕ → ℕ → Tables
-unhandled t n kind = if isSynth kind then overTables t n else exitProcess (overTables t n) (processOf t n) KILL-CODE
+unhandled t n kind =
+    if isSynth kind then overTables t n else exitProcess (overTables t n) (processOf t n) KILL-CODE
 
 unfoldable pub deliver : Handler → Tables → ℕ → ℕ → Bool → Reply
 deliver Nobody t n kind second = outcome (unhandled t n kind) NEXT
 deliver (HandlerAt place) t n kind second =
-    reply (putThread t n (waits (threadAt t n) BLOCKED-EXCEPTION (InException (exceptionAt kind place second))))
+    reply (putThread t n (waits (threadAt t n) BLOCKED-EXCEPTION
+    (InException (exceptionAt kind place second))))
     (pos (levelOf place)) (OwnerField (ownerOf t n place))
 
 abbrev pub delivered : Search → ℕ → ℕ → Bool → Reply
 delivered s n kind second = deliver (s .at) (s .tables) n kind second
 
--- ThreadExiting goes to level 1 and leaves the state; a killed thread sends it and is stopped (M11)
+-- ThreadExiting goes to level 1 and leaves the state; a killed thread sends it and is stopped
+-- (M11)
 unfoldable pub raiseExiting : Tables → ℕ → ℕ → Reply
 raiseExiting t n kind =
     if not (isBound (levelAt t n Exiting)) then outcome (passOver t n Exiting) NEXT else
     if threadAt t n .killed then outcome t STOP else
-    reply (putThread t n (waits (threadAt t n) (threadAt t n .state) (InException (exceptionAt kind Exiting false))))
+    reply (putThread t n (waits (threadAt t n) (threadAt t n .state)
+    (InException (exceptionAt kind Exiting false))))
     (pos 1) (OwnerField (processOf t n))
 
 -- other types raised while Dying deliver nothing

@@ -75,7 +75,8 @@ setState t n state = call t do
 abbrev pub hasStrategy : Exception → Bool
 hasStrategy e = (currentLevel (e .place) =? 1) or (currentLevel (e .place) =? 5)
 
--- 17: `ExceptionObject::set_strategy`; a strategy above 1 is refused before the level is looked at (M12)
+-- 17: `ExceptionObject::set_strategy`; a strategy above 1 is refused before the level is looked at
+-- (M12)
 unfoldable pub setStrategy : Tables → ℕ → ℕ → Reply
 setStrategy t n strategy = call t do
   refuse 101 when 128 ≤? n

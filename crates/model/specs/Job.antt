@@ -1,5 +1,6 @@
--- Jobs and processes: lists, terminations upward, and killing, exiting and ending, which call one another.
--- Follows job.rs and process.rs, and the pages of jobs, processes and zx_job_set_critical.
+-- Jobs and processes: lists, terminations upward, and killing, exiting and ending, which call one
+-- another. Follows job.rs and process.rs, and the pages of jobs, processes and
+-- zx_job_set_critical.
 use Prim.Native.Nat.{ℕ, zero, suc, _+_}
 use mathlib.Core.Bool.{Bool, true, false, not}
 use mathlib.Core.List.{List, [], _∷_, map}
@@ -14,11 +15,13 @@ use Rattle.record_process.specs.declared.Critical.{Critical}
 use Rattle.record_process.specs.declared.Critical.the-variants.{Free, To}
 use Rattle.record_process.specs.declared.Status.the-variants.{Exited}
 use Rattle.record_process.specs.declared.Process.{Process}
-use Rattle.record_process.specs.Process.{KILL-CODE, isExited, codeOf, withStatus, ended, acts, memberOf}
+use Rattle.record_process.specs.Process.{KILL-CODE, isExited, codeOf, withStatus, ended, acts}
+use Rattle.record_process.specs.Process.{memberOf}
 use Rattle.record_thread.specs.declared.Thread.{Thread}
 use Rattle.record_thread.specs.Thread.{kill, finish, threadOf}
 use Rattle.records.specs.declared.tables.Tables.{Tables}
-use Rattle.records.specs.Tables.{jobAt, processAt, threadAt, putJob, putProcess, putThread, withThreads}
+use Rattle.records.specs.Tables.{jobAt, processAt, threadAt, putJob, putProcess, putThread}
+use Rattle.records.specs.Tables.{withThreads}
 
 -- ---- Lists: a record is on the list of what it names while it carries the listed mark --------
 
@@ -44,7 +47,8 @@ onParent (ChildOf p) a k = k p
 -- is job j at or above job i? n steps at most
 unfoldable pub isAbove : ℕ → Tables → ℕ → ℕ → Bool
 isAbove zero t j i = false
-isAbove (suc n) t j i = ite (i =? j) (λ _. true) λ _. onParent (jobAt t i .parent) false λ p. isAbove n t j p
+isAbove (suc n) t j i =
+    ite (i =? j) (λ _. true) λ _. onParent (jobAt t i .parent) false λ p. isAbove n t j p
 
 -- as many steps as there are jobs
 abbrev pub atOrAbove : Tables → ℕ → ℕ → Bool
@@ -120,7 +124,8 @@ unlistProcess t p =
 
 -- `Process::terminate`
 unfoldable pub endStep : (Tables → ℕ → Tables) → Tables → ℕ → Tables
-endStep K t p = killBound K (processAt t p .critical) (codeOf (processAt t p .status)) (unlistProcess t p)
+endStep K t p =
+    killBound K (processAt t p .critical) (codeOf (processAt t p .status)) (unlistProcess t p)
 
 -- a process marked Exited: it ends if it lists no thread, else its threads are killed
 unfoldable pub exitListed : (Tables → ℕ → Tables) → Tables → ℕ → Tables
@@ -136,7 +141,8 @@ exitStep K t p code =
 unfoldable mutual
   pub killWithin : ℕ → Tables → ℕ → Tables
   killWithin zero t j = t
-  killWithin (suc n) t j = killStep (λ u c. killWithin n u c) (λ u p code. exitWithin n u p code) t j
+  killWithin (suc n) t j =
+      killStep (λ u c. killWithin n u c) (λ u p code. exitWithin n u p code) t j
 
   pub exitWithin : ℕ → Tables → ℕ → ℤ → Tables
   exitWithin zero t p code = t
@@ -159,7 +165,8 @@ exitProcess t p code = exitWithin (suc (remaining t)) t p code
 unfoldable pub endProcess : Tables → ℕ → Tables
 endProcess t p = endStep killJob t p
 
--- `Thread::terminate` and `remove_thread`: the process ends when its last listed thread finishes (M7)
+-- `Thread::terminate` and `remove_thread`: the process ends when its last listed thread finishes
+-- (M7)
 unfoldable pub finishThread : Tables → ℕ → Tables
 finishThread t n =
     let u : Tables = putThread t n (finish (threadAt t n)) in

@@ -18,14 +18,16 @@ use Rattle.record_job.specs.Job.{newJob, withSlack}
 use Rattle.record_process.specs.declared.Status.{Status}
 use Rattle.record_process.specs.declared.Status.the-variants.{Running}
 use Rattle.record_process.specs.declared.Process.{Process}
-use Rattle.record_process.specs.Process.{KILL-CODE, newProcess, isInit, isExited, codeOf, withStatus, isCritical, bindTo}
+use Rattle.record_process.specs.Process.{KILL-CODE, newProcess, isInit, isExited, codeOf}
+use Rattle.record_process.specs.Process.{withStatus, isCritical, bindTo}
 use Rattle.record_thread.specs.declared.Thread.{Thread}
 use Rattle.record_thread.specs.Thread.{start, threadOf}
 use Rattle.records.specs.declared.tables.Tables.{Tables}
 use Rattle.records.specs.declared.reply.Fields.the-variants.{JobFields, ProcessFields}
 use Rattle.records.specs.declared.reply.Reply.{Reply}
 use Rattle.records.specs.Reply.{reply, replyWith}
-use Rattle.records.specs.Tables.{jobAt, processAt, fixedAt, putJob, putInherited, putProcess, putFixed, putThread}
+use Rattle.records.specs.Tables.{jobAt, processAt, fixedAt, putJob, putInherited, putProcess}
+use Rattle.records.specs.Tables.{putFixed, putThread}
 use Rattle.model.specs.Replies.{call, accept, job, process, thread}
 use Rattle.model.specs.Job.{atOrAbove, jobEmpty, killJob, exitProcess}
 use Rattle.model.specs.JobPolicy.{policyOf, badEntry, setPolicy, panicsAt, isDenied}
@@ -76,7 +78,8 @@ setPolicyTimerSlack t j p = call t do
 -- killed, terminated, slack amount, mode; the policy beside
 unfoldable pub jobInfo : Tables → ℕ → Job → Reply
 jobInfo t j v =
-    replyWith t (JobFields (v .killed) (v .terminated) (v .slack .amount) (v .slack .mode)) (pos 0) (policyOf t j)
+    replyWith t (JobFields (v .killed) (v .terminated) (v .slack .amount) (v .slack .mode)) (pos 0)
+    (policyOf t j)
 
 -- 1b: job information
 unfoldable pub jobInformation : Tables → ℕ → Reply
@@ -156,7 +159,8 @@ checkPolicy t p condition = call t do
 unfoldable pub processInfo : Tables → Process → Reply
 processInfo t q =
     reply t (pos 0)
-    (ProcessFields (codeOf (q .status)) (not (isInit (q .status))) (isExited (q .status)) (isBound (q .level1)) (q .terminated))
+    (ProcessFields (codeOf (q .status)) (not (isInit (q .status))) (isExited (q .status))
+    (isBound (q .level1)) (q .terminated))
 
 -- 1c: process information
 unfoldable pub processInformation : Tables → ℕ → Reply

@@ -1,5 +1,5 @@
--- Policies of jobs and processes in the tables. Follows `set_policy_basic` of job.rs and `check_policy` of process.rs,
--- and the page of zx_job_set_policy.
+-- Policies of jobs and processes in the tables. Follows `set_policy_basic` of job.rs and
+-- `check_policy` of process.rs, and the page of zx_job_set_policy.
 use Prim.Native.Nat.{ℕ}
 use mathlib.Core.Bool.{Bool, true, false, not}
 use mathlib.Core.List.{List, [], _∷_}
@@ -38,7 +38,8 @@ pub record Setting : Type 0 where
 abbrev pub setting : JobPolicy → Bool → Setting
 setting own refused = record { own = own; refused = refused }
 
--- entry after entry; where the parent set the condition, Absolute (0) ends there and Relative goes on (M10)
+-- entry after entry; where the parent set the condition, Absolute (0) ends there and Relative goes
+-- on (M10)
 unfoldable pub setEach : ℕ → JobPolicy → JobPolicy → List BasicPolicy → Setting
 setEach option inherited own [] = setting own false
 setEach option inherited own (b ∷ l) =

@@ -1,4 +1,5 @@
--- A refused call changes no record. The one exception is `0f` with -26: just the entries before the refused one are set.
+-- A refused call changes no record. The one exception is `0f` with -26: just the entries before
+-- the refused one are set.
 use Prim.Native.Nat.{ℕ, suc}
 use mathlib.Core.Path.{_≡_}
 use mathlib.Core.Bool.{Bool, true, false, not}
@@ -45,7 +46,10 @@ pub record PartSet (t : Tables) (j : ℕ) (l : List BasicPolicy) (u : Tables) : 
 -- the tables after a refused call
 pub data Kept (t : Tables) : Call → ℤ → Tables → Type 0 where
   same : {c : Call} {answer : ℤ} → Kept t c answer t
-  part : {j option : ℕ} {l : List BasicPolicy} {u : Tables} → PartSet t j l u → Kept t (cmd0f j option l) ALREADY-EXISTS u
+  part : {j option : ℕ} {l : List BasicPolicy} {u : Tables} → PartSet t j l u →
+      Kept t (cmd0f j option l) ALREADY-EXISTS u
 
 unfoldable pub Refusals : Type 0
-Refusals = (t : Tables) (c : Call) → isRefusal (step t c .answer) ≡ true → Kept t c (step t c .answer) (step t c .tables)
+Refusals =
+    (t : Tables) (c : Call) → isRefusal (step t c .answer) ≡ true →
+    Kept t c (step t c .answer) (step t c .tables)

@@ -1,5 +1,5 @@
--- How the calls of this model answer: guards in document 01's order, and at the foot what an accepted call comes to.
--- A lookup gives a made record, or the number that refuses the call.
+-- How the calls of this model answer: guards in document 01's order, and at the foot what an
+-- accepted call comes to. A lookup gives a made record, or the number that refuses the call.
 use Prim.Native.Nat.{ℕ}
 use mathlib.Core.Bool.{Bool, true, false}
 use lib.IntN.{ℤ, pos}

@@ -1,9 +1,9 @@
 -- No trip meddles with another (demand 3): one claim about whole lists of calls.
 --
--- Take any two trips that share no name, any reachable state in which no process of the first trip is bound critical to a
--- job outside it, and any list of calls, each made for one of the two and using only its names. Then the second trip's
--- calls get the same answers and fields, and the records under its names are the same in the end, as if the first trip's
--- calls had been left out.
+-- Take any two trips that share no name, any reachable state in which no process of the first trip
+-- is bound critical to a job outside it, and any list of calls, each made for one of the two and
+-- using only its names. Then the second trip's calls get the same answers and fields, and the
+-- records under its names are the same in the end, as if the first trip's calls had been left out.
 use Prim.Native.Nat.{ℕ}
 use mathlib.Core.Path.{_≡_}
 use mathlib.Core.Bool.{Bool, true, false}
@@ -11,9 +11,14 @@ use mathlib.Core.List.{List, [], _∷_}
 use Rattle.laws.specs.Choice.{_≤?_, _<?_, _or_, if_then_else_}
 use Rattle.record_process.specs.declared.Critical.the-variants.{To}
 use Rattle.records.specs.declared.tables.Tables.{Tables}
-use Rattle.records.specs.Tables.{jobAt, ownAt, inheritedAt, processAt, fixedAt, threadAt, tokenAt, freshTables}
+use Rattle.records.specs.Tables.{jobAt, ownAt, inheritedAt, processAt, fixedAt, threadAt, tokenAt}
+use Rattle.records.specs.Tables.{freshTables}
 use Rattle.model.specs.ExceptionCalls.{badLevel}
-use Rattle.model.specs.Step.{Call, cmd01, cmd02, cmd03, cmd04, cmd05, cmd06, cmd07, cmd08, cmd09, cmd0a, cmd0b, cmd0c, cmd0d, cmd0e, cmd0f, cmd10, cmd11, cmd12, cmd13, cmd14, cmd15, cmd16, cmd17, cmd18, cmd19, cmd1a, cmd1b, cmd1c, cmd1d, cmd1e, cmd1f, Shown, shown, step, answers, final}
+use Rattle.model.specs.Step.{Call, cmd01, cmd02, cmd03, cmd04, cmd05, cmd06, cmd07, cmd08}
+use Rattle.model.specs.Step.{cmd09, cmd0a, cmd0b, cmd0c, cmd0d, cmd0e, cmd0f, cmd10, cmd11}
+use Rattle.model.specs.Step.{cmd12, cmd13, cmd14, cmd15, cmd16, cmd17, cmd18, cmd19, cmd1a}
+use Rattle.model.specs.Step.{cmd1b, cmd1c, cmd1d, cmd1e, cmd1f, Shown, shown, step, answers}
+use Rattle.model.specs.Step.{final}
 use Rattle.model.specs.Reachable.{AtOrAbove}
 
 -- ---- Trips ---------------------------------------------------------------------------------
@@ -30,14 +35,18 @@ pub record Trip : Type 0 where
 abbrev pub taskOf : Trip → ℕ → ℕ → Bool
 taskOf x kind n = if kind ≤? 1 then x .processes n else x .threads n
 
--- of the made names a trip has its job, all made below it, and the tokens on these; unmade names are kept for it freely
+-- of the made names a trip has its job, all made below it, and the tokens on these; unmade names
+-- are kept for it freely
 pub record IsTrip (t : Tables) (x : Trip) : Type 0 where
   pub home-made : jobAt t (x .home) .made ≡ true
   pub below : (j : ℕ) → jobAt t j .made ≡ true → AtOrAbove t (x .home) j → x .jobs j ≡ true
   pub only-below : (j : ℕ) → jobAt t j .made ≡ true → x .jobs j ≡ true → AtOrAbove t (x .home) j
-  pub processes : (p : ℕ) → processAt t p .made ≡ true → x .processes p ≡ x .jobs (processAt t p .job)
-  pub threads : (n : ℕ) → threadAt t n .made ≡ true → x .threads n ≡ x .processes (threadAt t n .process)
-  pub tokens : (k : ℕ) → tokenAt t k .held ≡ true → x .tokens k ≡ taskOf x (tokenAt t k .kind) (tokenAt t k .name)
+  pub processes : (p : ℕ) → processAt t p .made ≡ true →
+      x .processes p ≡ x .jobs (processAt t p .job)
+  pub threads : (n : ℕ) → threadAt t n .made ≡ true →
+      x .threads n ≡ x .processes (threadAt t n .process)
+  pub tokens : (k : ℕ) → tokenAt t k .held ≡ true →
+      x .tokens k ≡ taskOf x (tokenAt t k .kind) (tokenAt t k .name)
 
 -- no name is shared
 pub record Apart (x y : Trip) : Type 0 where
@@ -49,7 +58,8 @@ pub record Apart (x y : Trip) : Type 0 where
 -- no process of the trip is bound critical to a job outside it
 abbrev pub Inward : Tables → Trip → Type 0
 Inward t x =
-    (p j : ℕ) (b : Bool) → processAt t p .made ≡ true → x .processes p ≡ true → processAt t p .critical ≡ To j b →
+    (p j : ℕ) (b : Bool) → processAt t p .made ≡ true → x .processes p ≡ true →
+    processAt t p .critical ≡ To j b →
     x .jobs j ≡ true
 
 -- ---- Calls that use only a trip's names --------------------------------------------------------
@@ -151,11 +161,14 @@ pub record SameUnder (y : Trip) (s t : Tables) : Type 0 where
   pub threads : (n : ℕ) → y .threads n ≡ true → threadAt s n ≡ threadAt t n
   pub tokens : (k : ℕ) → y .tokens k ≡ true → tokenAt s k ≡ tokenAt t k
 
--- (That neither trip's job is above the other's follows: what is below a trip's job is the trip's, and no name is shared.)
+-- (That neither trip's job is above the other's follows: what is below a trip's job is the trip's,
+-- and no name is shared.)
 unfoldable pub Separation : Type 0
 Separation =
     (before : List Call) (x y : Trip) → Apart x y →
-    IsTrip (final freshTables before) x → IsTrip (final freshTables before) y → Inward (final freshTables before) x →
+    IsTrip (final freshTables before) x → IsTrip (final freshTables before) y →
+    Inward (final freshTables before) x →
     (l : Calls x y) →
     (toSecond (final freshTables before) l ≡ answers (final freshTables before) (ofSecond l))
-    × SameUnder y (final (final freshTables before) (all l)) (final (final freshTables before) (ofSecond l))
+    × SameUnder y (final (final freshTables before) (all l))
+    (final (final freshTables before) (ofSecond l))

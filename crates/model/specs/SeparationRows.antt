@@ -6,7 +6,8 @@ use mathlib.Core.List.{List, [], _∷_}
 use lib.IntN.{pos}
 use Rattle.laws.specs.Choice.{minus}
 use Rattle.records.specs.Tables.{freshTables}
-use Rattle.model.specs.Step.{Call, cmd01, cmd03, cmd06, cmd07, cmd08, cmd09, cmd0c, cmd1b, cmd1c, answers, final}
+use Rattle.model.specs.Step.{Call, cmd01, cmd03, cmd06, cmd07, cmd08, cmd09, cmd0c, cmd1b}
+use Rattle.model.specs.Step.{cmd1c, answers, final}
 use Rattle.model.specs.Cases.{yes0, job, process, none, _⇒_, Run}
 use Rattle.model.specs.Separation.{Trip, IsTrip, Apart, Calls, ofSecond, toSecond}
 

@@ -7,9 +7,16 @@ use Rattle.job_policy.specs.declared.JobPolicy.{JobPolicy}
 use Rattle.records.specs.declared.tables.Tables.{Tables}
 use Rattle.records.specs.declared.reply.Fields.{Fields}
 use Rattle.records.specs.declared.reply.Reply.{Reply}
-use Rattle.model.specs.JobCalls.{createChild, killJobCall, setPolicyBasic, setPolicyTimerSlack, jobInformation, createProcess, startProcess, exitProcessCall, killProcess, setCriticalAtJob, checkPolicy, processInformation}
-use Rattle.model.specs.ThreadCalls.{createThread, startThread, killThread, exitThread, finishThreadCall, threadInformation, beginWait, pollWait, createTokenCall, dropTokenCall, suspendCall, resumeCall}
-use Rattle.model.specs.ExceptionCalls.{bindLevel, hangUpLevel, raiseException, closeException, setState, setStrategy, getProcessHandle}
+use Rattle.model.specs.JobCalls.{createChild, killJobCall, setPolicyBasic}
+use Rattle.model.specs.JobCalls.{setPolicyTimerSlack, jobInformation, createProcess}
+use Rattle.model.specs.JobCalls.{startProcess, exitProcessCall, killProcess}
+use Rattle.model.specs.JobCalls.{setCriticalAtJob, checkPolicy, processInformation}
+use Rattle.model.specs.ThreadCalls.{createThread, startThread, killThread, exitThread}
+use Rattle.model.specs.ThreadCalls.{finishThreadCall, threadInformation, beginWait, pollWait}
+use Rattle.model.specs.ThreadCalls.{createTokenCall, dropTokenCall, suspendCall, resumeCall}
+use Rattle.model.specs.ExceptionCalls.{bindLevel, hangUpLevel, raiseException}
+use Rattle.model.specs.ExceptionCalls.{closeException, setState, setStrategy}
+use Rattle.model.specs.ExceptionCalls.{getProcessHandle}
 
 -- operands as they are read, in their order; 0f with a list of any length
 pub data Call : Type 0 where

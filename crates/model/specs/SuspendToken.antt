@@ -1,5 +1,6 @@
--- Suspending and resuming a task, and tokens. Follows suspend_token.rs and `suspend` and `resume` of thread.rs and process.rs.
--- A thread is concerned if it is the one named (kind 2), or listed by the process named (kind 1).
+-- Suspending and resuming a task, and tokens. Follows suspend_token.rs and `suspend` and `resume`
+-- of thread.rs and process.rs. A thread is concerned if it is the one named (kind 2), or listed by
+-- the process named (kind 1).
 use Prim.Native.Nat.{ℕ}
 use mathlib.Core.Bool.{Bool, true, false}
 use mathlib.Core.List.{map}
@@ -27,7 +28,8 @@ changeIn f p v = if threadOf v p then f v else v
 -- f at each thread concerned
 unfoldable pub changeTask : (Thread → Thread) → Tables → ℕ → ℕ → Tables
 changeTask f t kind n =
-    if kind =? PROCESS then withThreads t (map (changeIn f n) (t .threads)) else putThread t n (f (threadAt t n))
+    if kind =? PROCESS then withThreads t (map (changeIn f n) (t .threads))
+    else putThread t n (f (threadAt t n))
 
 unfoldable pub suspendTask : Tables → ℕ → ℕ → Tables
 suspendTask t kind n = changeTask suspend t kind n

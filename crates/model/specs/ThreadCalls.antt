@@ -1,4 +1,5 @@
--- The calls on threads, their plain waits and suspend tokens, with their refusals in document 01's order.
+-- The calls on threads, their plain waits and suspend tokens, with their refusals in document 01's
+-- order.
 use Prim.Native.Nat.{ℕ, _%_, _/_}
 use mathlib.Core.Bool.{Bool, true, false, not}
 use lib.IntN.{ℤ, pos}
@@ -9,7 +10,8 @@ use Rattle.record_process.specs.Process.{isExited}
 use Rattle.record_thread.specs.declared.Waiting.{Waiting}
 use Rattle.record_thread.specs.declared.Waiting.the-variants.{NotWaiting, InWait, InException}
 use Rattle.record_thread.specs.declared.Thread.{Thread}
-use Rattle.record_thread.specs.Thread.{DYING, FULL, newThread, start, kill, exit, shownState, isFree, isInWait, waits, endWait}
+use Rattle.record_thread.specs.Thread.{DYING, FULL, newThread, start, kill, exit, shownState}
+use Rattle.record_thread.specs.Thread.{isFree, isInWait, waits, endWait}
 use Rattle.record_exception.specs.Exception.{currentLevel}
 use Rattle.records.specs.declared.tables.Tables.{Tables}
 use Rattle.records.specs.declared.reply.Fields.the-variants.{ThreadFields}
@@ -71,7 +73,8 @@ waitingLevel (InException e) = currentLevel (e .place)
 
 -- shown state, waiting level, suspend count
 unfoldable pub threadInfo : Tables → Thread → Reply
-threadInfo t v = reply t (pos 0) (ThreadFields (shownState v) (waitingLevel (v .waiting)) (v .suspends))
+threadInfo t v =
+    reply t (pos 0) (ThreadFields (shownState v) (waitingLevel (v .waiting)) (v .suspends))
 
 -- 1d: thread information
 unfoldable pub threadInformation : Tables → ℕ → Reply
@@ -89,7 +92,8 @@ isWaitState state = (state =? 3) or (0x203 ≤? state) and (state ≤? 0x903) an
 -- no wait begins while Dying
 unfoldable pub waitBegun : Tables → ℕ → Thread → ℕ → Reply
 waitBegun t n v state =
-    if v .state =? DYING then answered t STOP else answered (putThread t n (waits v state InWait)) (pos 0)
+    if v .state =? DYING then answered t STOP
+    else answered (putThread t n (waits v state InWait)) (pos 0)
 
 -- 19: begins a plain wait
 unfoldable pub beginWait : Tables → ℕ → ℕ → Reply
@@ -104,7 +108,8 @@ beginWait t n state = call t do
 abbrev pub bit : ℕ → ℕ → Bool
 bit ready weight = ready / weight % 2 =? 1
 
--- the first that is true: done, killed since it began, deadline, cancelled; else still pending (M4)
+-- the first that is true: done, killed since it began, deadline, cancelled; else still pending
+-- (M4)
 unfoldable pub waitAnswer : Thread → ℕ → ℤ
 waitAnswer v ready =
     if bit ready 1 then pos 0 else
@@ -118,7 +123,8 @@ isPending v ready = (ready =? 0) and not (v .state =? DYING)
 
 unfoldable pub waitPolled : Tables → ℕ → Thread → ℕ → Reply
 waitPolled t n v ready =
-    if isPending v ready then answered t SHOULD-WAIT else answered (putThread t n (endWait v)) (waitAnswer v ready)
+    if isPending v ready then answered t SHOULD-WAIT
+    else answered (putThread t n (endWait v)) (waitAnswer v ready)
 
 -- 1a: polls a plain wait
 unfoldable pub pollWait : Tables → ℕ → ℕ → Reply

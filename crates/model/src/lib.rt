@@ -4,6 +4,7 @@ ghost use mathlib.Core.Bool.{true};
 ghost use mathlib.Core.Path.{_≡_};
 ghost use Rattle.model.specs.Answers.{Answers};
 ghost use Rattle.model.specs.Cases.{Cases};
+ghost use Rattle.model.specs.Closings.{Closings};
 ghost use Rattle.model.specs.Reachable.{Reachable};
 ghost use Rattle.model.specs.Refusals.{Refusals};
 ghost use Rattle.model.specs.Separation.{Separation};
@@ -36,7 +37,7 @@ pub struct Search {
 
 // Carries the claims as its promise.
 pub fn claims() -> bool
-    ensures { λ r. ⌜ (r ≡ true) × Cases × Refusals × Answers × Reachable × StopsWhole × Separation × SeparationRows ⌝ }
+    ensures { λ r. ⌜ (r ≡ true) × Cases × Refusals × Answers × Reachable × StopsWhole × Closings × Separation × SeparationRows ⌝ }
 {
     true
 }

@@ -13,7 +13,8 @@ use Rattle.records.specs.declared.tables.FoundThread.{FoundThread}
 use Rattle.records.specs.declared.tables.FoundThread.the-variants.{NoThread, OldThread}
 use Rattle.owners.specs.declared.FoundLevel.the-variants.{NoLevel, OldLevel}
 use Rattle.owners.specs.declared.FoundTask.the-variants.{NoTask, OldTask}
-use Rattle.owners.specs.Owners.{processLevel, jobLevel, levelOfThread, levelOfProcess, levelOfJob, madeJob, madeProcess, madeThread}
+use Rattle.owners.specs.Owners.{processLevel, jobLevel, levelOfThread, levelOfProcess}
+use Rattle.owners.specs.Owners.{levelOfJob, madeJob, madeProcess, madeThread}
 
 pub no-thread : {g : FoundThread} (h : FoundThread) → g ≡ h → g ≡ NoThread → NoLevel ≡ levelOfThread h
 unfolding levelOfThread

@@ -1,4 +1,5 @@
--- Names whose table depends on a number before them: the owner of a channel level (12 and 13), the task of a kind.
+-- Names whose table depends on a number before them: the owner of a channel level (12 and 13), the
+-- task of a kind.
 use Prim.Native.Nat.{ℕ}
 use Rattle.laws.specs.Choice.{_=?_, _<?_, if_then_else_}
 use Rattle.record_exception.specs.declared.Level.{Level}
@@ -14,7 +15,8 @@ use Rattle.records.specs.declared.tables.FoundProcess.{FoundProcess}
 use Rattle.records.specs.declared.tables.FoundProcess.the-variants.{NoProcess, OldProcess}
 use Rattle.records.specs.declared.tables.FoundThread.{FoundThread}
 use Rattle.records.specs.declared.tables.FoundThread.the-variants.{NoThread, OldThread}
-use Rattle.records.specs.Tables.{jobAt, processAt, threadAt, foundJob, foundProcess, foundThread, putJob, putProcess, putThread}
+use Rattle.records.specs.Tables.{jobAt, processAt, threadAt, foundJob, foundProcess, foundThread}
+use Rattle.records.specs.Tables.{putJob, putProcess, putThread}
 use Rattle.owners.specs.declared.FoundLevel.{FoundLevel}
 use Rattle.owners.specs.declared.FoundLevel.the-variants.{NoLevel, OldLevel}
 use Rattle.owners.specs.declared.FoundTask.{FoundTask}

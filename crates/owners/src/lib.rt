@@ -1,6 +1,7 @@
 // owners: names whose table depends on a number before them: the owner of a channel level, the task of a kind.
 ghost use mathlib.Core.Path.{_≡_};
-ghost use Rattle.owners.specs.Owners.{ownersOf, processLevel, jobLevel, foundLevel, putLevel, tasksOf, foundTask};
+ghost use Rattle.owners.specs.Owners.{ownersOf, processLevel, jobLevel, foundLevel};
+ghost use Rattle.owners.specs.Owners.{putLevel, tasksOf, foundTask};
 use record_exception::Level;
 use record_job::Job;
 use record_process::Process;

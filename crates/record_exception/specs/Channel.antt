@@ -1,4 +1,5 @@
--- A level of an exception channel: unbound, bound, hung up or shut. Follows Exceptionate of exception.rs.
+-- A level of an exception channel: unbound, bound, hung up or shut. Follows Exceptionate of
+-- exception.rs.
 use mathlib.Core.Bool.{Bool, true, false}
 use Rattle.record_exception.specs.declared.Level.{Level}
 use Rattle.record_exception.specs.declared.Level.the-variants.{Unbound, Bound, HungUp, Shut}

@@ -2,7 +2,9 @@
 use Prim.Native.Nat.{ℕ}
 use mathlib.Core.Bool.{Bool, true, false}
 use Rattle.record_exception.specs.declared.Place.{Place}
-use Rattle.record_exception.specs.declared.Place.the-variants.{Debugger, OwnThread, OwnProcess, SecondChance, OfJob, OfJobDebugger, Exiting}
+use Rattle.record_exception.specs.declared.Place.the-variants.{Debugger, OwnThread}
+use Rattle.record_exception.specs.declared.Place.the-variants.{OwnProcess, SecondChance}
+use Rattle.record_exception.specs.declared.Place.the-variants.{OfJob, OfJobDebugger, Exiting}
 use Rattle.record_exception.specs.declared.Exception.{Exception}
 
 -- the channel level that has the exception
@@ -27,7 +29,8 @@ currentLevel Exiting = 0
 
 -- delivered at a place, not handled
 abbrev pub exceptionAt : ℕ → Place → Bool → Exception
-exceptionAt kind place second = record { kind = kind; place = place; handled = false; second = second }
+exceptionAt kind place second =
+    record { kind = kind; place = place; handled = false; second = second }
 
 abbrev pub withHandled : Exception → Bool → Exception
 withHandled e b = record { kind = e .kind; place = e .place; handled = b; second = e .second }

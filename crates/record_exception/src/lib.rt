@@ -2,7 +2,8 @@
 // holds, with the place in the order of handlers where it was delivered.
 ghost use mathlib.Core.Path.{_≡_};
 ghost use Rattle.record_exception.specs.Channel.{isBound, isShut, tried};
-ghost use Rattle.record_exception.specs.Exception.{levelOf, currentLevel, withHandled, withSecond, exceptionAt};
+ghost use Rattle.record_exception.specs.Exception.{levelOf, currentLevel, withHandled};
+ghost use Rattle.record_exception.specs.Exception.{withSecond, exceptionAt};
 
 // -- Levels --------------------------------------------------------------------------------
 

@@ -1,6 +1,7 @@
 // record_job: the record of a job. Its policies stand in tables of their own, beside the jobs.
 ghost use mathlib.Core.Path.{_≡_};
-ghost use Rattle.record_job.specs.Job.{noJob, rootJob, newJob, killed, terminated, withSlack, withLevel4, withLevel5, isParent, childOf};
+ghost use Rattle.record_job.specs.Job.{noJob, rootJob, newJob, killed, terminated};
+ghost use Rattle.record_job.specs.Job.{withSlack, withLevel4, withLevel5, isParent, childOf};
 use job_policy::TimerSlack;
 use record_exception::Level;
 

@@ -1,6 +1,9 @@
 // record_process: the record of a process. The policy fixed at its making stands in a table of its own, beside the processes.
 ghost use mathlib.Core.Path.{_≡_};
-ghost use Rattle.record_process.specs.Process.{noProcess, newProcess, isInit, isExited, codeOf, withStatus, ended, bindTo, isCritical, acts, withLevel1, withLevel3, memberOf};
+ghost use Rattle.record_process.specs.Process.{noProcess, newProcess, isInit, isExited};
+ghost use Rattle.record_process.specs.Process.{codeOf, withStatus, ended, bindTo};
+ghost use Rattle.record_process.specs.Process.{isCritical, acts, withLevel1, withLevel3};
+ghost use Rattle.record_process.specs.Process.{memberOf};
 use record_exception::Level;
 
 pub enum Status {

@@ -1,4 +1,5 @@
--- The record of a thread. Follows thread.rs and the page of threads. States are the numbers of ThreadState.
+-- The record of a thread. Follows thread.rs and the page of threads. States are the numbers of
+-- ThreadState.
 use Prim.Native.Nat.{ℕ, _+_, _-_}
 use mathlib.Core.Bool.{Bool, true, false, not}
 use Rattle.laws.specs.Choice.{_=?_, _and_, _or_, if_then_else_}
@@ -6,11 +7,14 @@ use Rattle.record_exception.specs.declared.Level.{Level}
 use Rattle.record_exception.specs.declared.Level.the-variants.{Unbound, Shut}
 use Rattle.record_exception.specs.declared.Exception.{Exception}
 use Rattle.record_thread.specs.declared.Waiting.{Waiting}
-use Rattle.record_thread.specs.declared.Waiting.the-variants.{NotWaiting, InWait, InException}
+use Rattle.record_thread.specs.declared.Waiting.the-variants.{NotWaiting, InWait}
+use Rattle.record_thread.specs.declared.Waiting.the-variants.{InException}
 use Rattle.record_thread.specs.declared.FoundException.{FoundException}
 use Rattle.record_thread.specs.declared.FoundException.the-variants.{NoException, Held}
 use Rattle.record_thread.specs.declared.Signals.{Signals}
-use Rattle.record_thread.specs.declared.Signals.the-variants.{NoSignal, RunningSignal, SuspendedSignal, TerminatedSignal}
+use Rattle.record_thread.specs.declared.Signals.the-variants.{NoSignal, RunningSignal}
+use Rattle.record_thread.specs.declared.Signals.the-variants.{SuspendedSignal}
+use Rattle.record_thread.specs.declared.Signals.the-variants.{TerminatedSignal}
 use Rattle.record_thread.specs.declared.Thread.{Thread}
 
 -- ---- States --------------------------------------------------------------------------------
@@ -38,7 +42,8 @@ unfoldable pub hides : ℕ → Bool
 hides state = (state =? BLOCKED-EXCEPTION) or (state =? DYING) or (state =? DEAD)
 
 unfoldable pub shownState : Thread → ℕ
-shownState v = if v .suspends =? 0 then v .state else if hides (v .state) then v .state else SUSPENDED
+shownState v =
+    if v .suspends =? 0 then v .state else if hides (v .state) then v .state else SUSPENDED
 
 -- none for New and Dying, terminated for Dead, suspended for Suspended, else running
 unfoldable pub signalsOf : ℕ → Signals

@@ -1,6 +1,10 @@
 // record_thread: the record of a thread, and what a single call does to it. States are numbers, as in ThreadState.
 ghost use mathlib.Core.Path.{_≡_};
-ghost use Rattle.record_thread.specs.Thread.{noThread, newThread, hides, shownState, signalsOf, signals, isLive, isIdle, isFree, isInWait, exceptionOf, threadOf, withoutException, start, kill, exit, finish, suspend, resume, waits, endWait, withLevel2};
+ghost use Rattle.record_thread.specs.Thread.{noThread, newThread, hides, shownState};
+ghost use Rattle.record_thread.specs.Thread.{signalsOf, signals, isLive, isIdle, isFree};
+ghost use Rattle.record_thread.specs.Thread.{isInWait, exceptionOf, threadOf};
+ghost use Rattle.record_thread.specs.Thread.{withoutException, start, kill, exit, finish};
+ghost use Rattle.record_thread.specs.Thread.{suspend, resume, waits, endWait, withLevel2};
 use record_exception::Exception;
 use record_exception::Level;
 

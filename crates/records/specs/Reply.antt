@@ -8,7 +8,8 @@ use Rattle.records.specs.declared.reply.Fields.the-variants.{NoFields}
 use Rattle.records.specs.declared.reply.Reply.{Reply}
 
 abbrev pub replyWith : Tables → Fields → ℤ → JobPolicy → Reply
-replyWith t fields answer policy = record { answer = answer; fields = fields; policy = policy; tables = t }
+replyWith t fields answer policy =
+    record { answer = answer; fields = fields; policy = policy; tables = t }
 
 unfoldable pub reply : Tables → ℤ → Fields → Reply
 reply t answer fields = replyWith t fields answer noPolicy

@@ -1,4 +1,5 @@
--- The tables: a list of records for each kind of name. Reading past a table gives an unmade record, writing past it nothing.
+-- The tables: a list of records for each kind of name. Reading past a table gives an unmade
+-- record, writing past it nothing.
 use Prim.Native.Nat.{ℕ}
 use mathlib.Core.List.{List}
 use lib.ListN.{getD, set, replicate}

@@ -1,6 +1,10 @@
 // tables.rt: the records of all names. Policies stand beside their jobs and processes, since no lookup can hold an array.
 ghost use mathlib.Core.Path.{_≡_};
-ghost use Rattle.records.specs.Tables.{freshTables, jobAt, processAt, threadAt, tokenAt, ownAt, inheritedAt, fixedAt, foundJob, foundProcess, foundThread, foundToken, putJob, putOwn, putInherited, putProcess, putFixed, putThread, putToken};
+ghost use Rattle.records.specs.Tables.{freshTables, jobAt, processAt, threadAt, tokenAt};
+ghost use Rattle.records.specs.Tables.{ownAt, inheritedAt, fixedAt, foundJob, foundProcess};
+ghost use Rattle.records.specs.Tables.{foundThread, foundToken, putJob, putOwn};
+ghost use Rattle.records.specs.Tables.{putInherited, putProcess, putFixed, putThread};
+ghost use Rattle.records.specs.Tables.{putToken};
 use job_policy::JobPolicy;
 use record_job::Job;
 use record_process::Process;

@@ -1,4 +1,5 @@
--- The loops' meanings that the model writes out in place: a count among the threads of a process, and a change of each.
+-- The loops' meanings that the model writes out in place: a count among the threads of a process,
+-- and a change of each.
 use Prim.Native.Nat.{ℕ}
 use mathlib.Core.Bool.{Bool}
 use mathlib.Core.List.{map}

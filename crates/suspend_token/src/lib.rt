@@ -1,7 +1,8 @@
 // suspend_token: suspending and resuming a task, and tokens. Follows suspend_token.rs, and `suspend` and `resume` of
 // thread.rs and process.rs. Kind 1 is a process: each thread that it lists is concerned; kind 2 is a thread.
 ghost use mathlib.Core.Path.{_≡_};
-ghost use Rattle.model.specs.SuspendToken.{someAt, suspendTask, resumeTask, createToken, dropToken};
+ghost use Rattle.model.specs.SuspendToken.{someAt, suspendTask, resumeTask, createToken};
+ghost use Rattle.model.specs.SuspendToken.{dropToken};
 use record_token::Kind;
 use record_token::SuspendToken;
 use records::tables::Tables;

@@ -1,6 +1,7 @@
 // threads.rt: making, starting, killing and showing a thread. Follows thread.rs.
 ghost use mathlib.Core.Path.{_≡_};
-ghost use Rattle.model.specs.ThreadCalls.{createThread, startThread, killThread, exitThread, waitingLevel, threadInformation};
+ghost use Rattle.model.specs.ThreadCalls.{createThread, startThread, killThread, exitThread};
+ghost use Rattle.model.specs.ThreadCalls.{waitingLevel, threadInformation};
 use error::Refusal;
 use error::ZxError;
 use record_process::Process;

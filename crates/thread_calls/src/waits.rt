@@ -1,6 +1,7 @@
 // waits.rt: a plain wait, begun and polled. Follows `blocking_run` of thread.rs.
 ghost use mathlib.Core.Path.{_≡_};
-ghost use Rattle.model.specs.ThreadCalls.{isWaitState, waitBegun, beginWait, bit, waitAnswer, isPending, waitPolled, pollWait};
+ghost use Rattle.model.specs.ThreadCalls.{isWaitState, waitBegun, beginWait, bit, waitAnswer};
+ghost use Rattle.model.specs.ThreadCalls.{isPending, waitPolled, pollWait};
 use error::Refusal;
 use error::ZxError;
 use record_thread::Thread;
