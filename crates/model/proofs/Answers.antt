@@ -5,9 +5,9 @@ use Rattle.model.specs.Step.{Call}
 use Rattle.model.specs.Answers.{Answered, Answers}
 use Rattle.model.proofs.Outcomes.{Outcome, refused, accepted, outcome}
 
-in-row : {t : Tables} {c : Call} (r : Reply) → Outcome t c r → Answered c (r .answer) (r .fields)
-in-row r (refused n f k) = Answered.refused n f
-in-row r (accepted a f h) = Answered.accepted a f
+in-row : {t : Tables} {c : Call} (r : Reply) → Outcome t c r → Answered c (r .answer) (r .fields) (r .policy)
+in-row r (refused n f p k) = Answered.refused n f p
+in-row r (accepted a f p h) = Answered.accepted a f p
 
 pub answers : Answers
 unfolding Answers

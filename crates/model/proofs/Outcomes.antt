@@ -55,6 +55,8 @@ use Rattle.model.specs.Step.{cmd09, cmd0a, cmd0b, cmd0c, cmd0d, cmd0e, c
 use Rattle.model.specs.Step.{cmd12, cmd13, cmd14, cmd15, cmd16, cmd17, cmd18, cmd19, cmd1a}
 use Rattle.model.specs.Step.{cmd1b, cmd1c, cmd1d, cmd1e, cmd1f, step}
 use Rattle.model.specs.Answers.{shapeOf, rowOf, OneOf, first, later}
+use Rattle.model.specs.Answers.{PolicyShown}
+use Rattle.job_policy.specs.Policy.{noPolicy}
 use Rattle.model.specs.Refusals.{isRefusal, Kept, same, part}
 use Rattle.model.proofs.PartSet.{refused-sets-part}
 use Rattle.model.proofs.Handlers.{Left, at-none, at-thread, at-process, at-second}
@@ -63,15 +65,15 @@ use Rattle.model.proofs.Handlers.{at-job, closing-leaves}
 -- no answer of an accepted call is a refusal
 pub data Outcome (t : Tables) (c : Call) (r : Reply) : Type 0 where
   refused : OneOf (r .answer) (rowOf c .refusals) → r .fields ≡ NoFields
-      → Kept t c (r .answer) (r .tables) → Outcome t c r
+      → r .policy ≡ noPolicy → Kept t c (r .answer) (r .tables) → Outcome t c r
   accepted : OneOf (r .answer) (rowOf c .answers) → shapeOf (r .fields) ≡ rowOf c .fields
-      → isRefusal (r .answer) ≡ false → Outcome t c r
+      → PolicyShown (rowOf c .fields) (r .policy) → isRefusal (r .answer) ≡ false → Outcome t c r
 
 -- a guard refuses with its number alone, and the tables stay
 guarded : (t : Tables) (c : Call) (l : Guarded Reply)
     → Within (λ z. OneOf z (rowOf c .refusals)) (Outcome t c) l → Outcome t c (call t l)
 unfolding answered
-guarded t c l h = settle-within _ l (λ z n. refused n refl same) h
+guarded t c l h = settle-within _ l (λ z n. refused n refl refl same) h
 
 -- ---- Lookups: the number of each --------------------------------------------------------------
 
@@ -155,7 +157,7 @@ unfolding setPolicy policySet rowOf answered
 listed t j option l =
     let s = setEach option (inheritedAt t j) (ownAt t j) l in
     if-on (λ z. Outcome t (cmd0f j option l) (answered (putOwn t j (s .own)) z)) (s .refused) _ _
-    (λ e. refused (search answer depth 9) refl (part (refused-sets-part t j option l e)))
+    (λ e. refused (search answer depth 9) refl refl (part (refused-sets-part t j option l e)))
     λ _. search answer
 
 ruleset feet = (answer, either, either-answer, raised, closed, closing-leaves, listed)

@@ -10,8 +10,8 @@ use Rattle.model.proofs.Outcomes.{Outcome, refused, accepted, outcome}
 
 kept : (t : Tables) (c : Call) (r : Reply) → Outcome t c r → isRefusal (r .answer) ≡ true
     → Kept t c (r .answer) (r .tables)
-kept t c r (refused n f k) e = k
-kept t c r (accepted a f h) e = no-both e h
+kept t c r (refused n f p k) e = k
+kept t c r (accepted a f p h) e = no-both e h
 
 pub refusals : Refusals
 unfolding Refusals

@@ -4,6 +4,8 @@ use mathlib.Core.Path.{_≡_}
 use mathlib.Core.List.{List, [], _∷_}
 use lib.IntN.{ℤ, pos}
 use Rattle.laws.specs.Choice.{minus}
+use Rattle.job_policy.specs.declared.JobPolicy.{JobPolicy}
+use Rattle.job_policy.specs.Policy.{noPolicy}
 use Rattle.records.specs.declared.tables.Tables.{Tables}
 use Rattle.records.specs.declared.reply.Fields.{Fields}
 use Rattle.records.specs.declared.reply.Fields.the-variants.{NoFields, OwnerField, JobFields}
@@ -81,11 +83,21 @@ pub data OneOf (z : ℤ) : List ℤ → Type 0 where
   first : {l : List ℤ} → OneOf z (z ∷ l)
   later : {y : ℤ} {l : List ℤ} → OneOf z l → OneOf z (y ∷ l)
 
+-- only a job's information shows a policy
+abbrev pub PolicyShown : Shape → JobPolicy → Type 0
+PolicyShown bare p = p ≡ noPolicy
+PolicyShown owner p = p ≡ noPolicy
+PolicyShown ofJob p = Unit {0}
+PolicyShown ofProcess p = p ≡ noPolicy
+PolicyShown ofThread p = p ≡ noPolicy
+
 -- refused with no field, or accepted with the command's fields
-pub data Answered (c : Call) (answer : ℤ) (fields : Fields) : Type 0 where
-  refused : OneOf answer (rowOf c .refusals) → fields ≡ NoFields → Answered c answer fields
+pub data Answered (c : Call) (answer : ℤ) (fields : Fields) (policy : JobPolicy) : Type 0 where
+  refused : OneOf answer (rowOf c .refusals) → fields ≡ NoFields → policy ≡ noPolicy →
+      Answered c answer fields policy
   accepted : OneOf answer (rowOf c .answers) → shapeOf fields ≡ rowOf c .fields →
-      Answered c answer fields
+      PolicyShown (rowOf c .fields) policy → Answered c answer fields policy
 
 unfoldable pub Answers : Type 0
-Answers = (t : Tables) (c : Call) → Answered c (step t c .answer) (step t c .fields)
+Answers =
+    (t : Tables) (c : Call) → Answered c (step t c .answer) (step t c .fields) (step t c .policy)
