@@ -1,4 +1,115 @@
-// job_calls: the calls on jobs and processes. Each answers document 01's refusals in its order, and else what its
-// definition in model/specs/JobCalls.antt comes to.
-pub mod jobs;
-pub mod processes;
+// job_calls: making, killing and showing a job, and its timer slack. Follows job.rs. Each call answers document 01's
+// refusals in its order, and else what its definition in model/specs/JobCalls.antt comes to.
+ghost use mathlib.Core.Path.{_≡_};
+ghost use Rattle.model.specs.JobCalls.{withChild, createChild, killJobCall};
+ghost use Rattle.model.specs.JobCalls.{setPolicyTimerSlack, jobInfo, jobInformation};
+use error::Refusal;
+use error::ZxError;
+use job::kill_job;
+use job_lists::job_empty;
+use job_lists::policy_of;
+use job_policy::TimerSlackPolicy;
+use record_job::Job;
+use records::reply::Fields;
+use records::reply::Reply;
+use records::tables::FoundJob;
+use records::tables::Tables;
+
+// The inherited policy is fixed when a job is made.
+fn with_child(t: Tables, job: u8, new: u8) -> Tables
+    ensures { λ r. ⌜ r ≡ withChild t job new ⌝ }
+{
+    let policy = policy_of(t, job);
+    let made = t.with_job(new, Job::new(job));
+    made.with_inherited(new, policy)
+}
+
+// 01: `Job::create_child`.
+pub fn create_child(t: Tables, job: u8, new: u8) -> Reply
+    ensures { λ r. ⌜ r ≡ createChild t job new ⌝ }
+{
+    if 32 <= job {
+        return Reply::answered(t, Refusal::PAST_TABLE);
+    }
+    if 32 <= new {
+        return Reply::answered(t, Refusal::PAST_TABLE);
+    }
+    let FoundJob::OldJob(v) = t.job(job) else {
+        return Reply::answered(t, Refusal::NOT_MADE);
+    };
+    if t.job_at(new).made {
+        return Reply::answered(t, Refusal::USED);
+    }
+    if v.killed {
+        return Reply::answered(t, ZxError::BAD_STATE);
+    }
+    Reply::answered(with_child(t, job, new), 0)
+}
+
+// 02: `Job::kill`.
+pub fn kill(t: Tables, job: u8) -> Reply
+    ensures { λ r. ⌜ r ≡ killJobCall t job ⌝ }
+{
+    if 32 <= job {
+        return Reply::answered(t, Refusal::PAST_TABLE);
+    }
+    let FoundJob::OldJob(v) = t.job(job) else {
+        return Reply::answered(t, Refusal::NOT_MADE);
+    };
+    Reply::answered(kill_job(t, job), 0)
+}
+
+// 10: `Job::set_policy_timer_slack`.
+pub fn set_policy_timer_slack(t: Tables, job: u8, policy: TimerSlackPolicy) -> Reply
+    ensures { λ r. ⌜ r ≡ setPolicyTimerSlack t job policy ⌝ }
+{
+    if 2 < policy.mode {
+        return Reply::answered(t, Refusal::BAD_FIELD);
+    }
+    if 32 <= job {
+        return Reply::answered(t, Refusal::PAST_TABLE);
+    }
+    let FoundJob::OldJob(v) = t.job(job) else {
+        return Reply::answered(t, Refusal::NOT_MADE);
+    };
+    if !job_empty(t, job) {
+        return Reply::answered(t, ZxError::BAD_STATE);
+    }
+    if policy.slack < 0 {
+        return Reply::answered(t, ZxError::INVALID_ARGS);
+    }
+    let old = v.slack;
+    Reply::answered(t.with_job(job, v.with_slack(old.generate_new(policy))), 0)
+}
+
+// Killed, terminated, slack amount, mode; the policy beside.
+fn job_info(t: Tables, job: u8, v: Job) -> Reply
+    ensures { λ r. ⌜ r ≡ jobInfo t job v ⌝ }
+{
+    let slack = v.slack;
+    let fields = Fields::JobFields {
+        killed: v.killed,
+        terminated: v.terminated,
+        amount: slack.amount,
+        mode: slack.mode,
+    };
+    Reply {
+        answer: 0,
+        fields: fields,
+        policy: policy_of(t, job),
+        tables: t,
+    }
+}
+
+// 1b: job information.
+pub fn get_info(t: Tables, job: u8) -> Reply
+    ensures { λ r. ⌜ r ≡ jobInformation t job ⌝ }
+{
+    if 32 <= job {
+        return Reply::answered(t, Refusal::PAST_TABLE);
+    }
+    let FoundJob::OldJob(v) = t.job(job) else {
+        return Reply::answered(t, Refusal::NOT_MADE);
+    };
+    job_info(t, job, v)
+}
