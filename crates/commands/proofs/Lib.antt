@@ -1,0 +1,3 @@
+-- What the proofs of the commands cite.
+pub mod Signed
+pub mod Fronts

@@ -1,0 +1,12 @@
+use borrow.Author.Needs.{needs}
+use Rattle.commands.proofs.pair_at.Statement.{statement}
+use Rattle.commands.proofs.pair_at.Tie as tie
+
+pub pair-at-spec : {M : Type 1} → statement M
+pair-at-spec =
+    tie.close
+    (tie.spec
+    (λ c κs. search needs)
+    (λ c. search needs)
+    (λ c κs. search needs)
+    (λ c. simp (c .before .byte-at .ensures, c .byte-at2 .ensures)))

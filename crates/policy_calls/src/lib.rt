@@ -1,0 +1,159 @@
+// policy_calls: 0f, a list of entries set on a job's own policy. Follows job.rs.
+// One pass notes what each entry brings; the refusals are answered after it, in document 01's
+// order.
+ghost use lib.ListN.{take};
+ghost use mathlib.Core.Path.{_≡_};
+ghost use Rattle.model.specs.JobCalls.{setPolicyBasic};
+ghost use Rattle.model.specs.JobPolicy.{badEntry, setting, policySet};
+ghost use Rattle.policy_calls.specs.Work.{beginWork, enterWork, stepWork, finishWork};
+use error::Refusal;
+use error::ZxError;
+use job_policy::ActionFound;
+use job_policy::BasicPolicy;
+use job_policy::JobPolicy;
+use job_policy::PolicyAction;
+use job_policy::PolicyCondition;
+use records::reply::Reply;
+use records::tables::FoundJob;
+use records::tables::Tables;
+
+// -- One pass over a list ------------------------------------------------------------------
+
+// What is known after some entries. No tables: an entry costs a copy of this alone.
+struct Work {
+    own: JobPolicy,
+    inherited: JobPolicy,
+    option: u8,
+    // Whether an entry was outside its lists.
+    bad: bool,
+    // Whether an entry was refused: none after it is set.
+    refused: bool,
+}
+
+// A condition or an action outside its list.
+fn bad_entry(policy: BasicPolicy) -> bool
+    ensures { λ r. ⌜ r ≡ badEntry policy ⌝ }
+{
+    if PolicyCondition::COUNT <= policy.condition {
+        return true;
+    }
+    PolicyAction::COUNT <= policy.action
+}
+
+// Before the first entry.
+fn begin(t: Tables, job: u8, option: u8) -> Work
+    ensures { λ r. ⌜ r ≡ beginWork t job option ⌝ }
+{
+    Work {
+        own: t.own_at(job),
+        inherited: t.inherited_at(job),
+        option: option,
+        bad: false,
+        refused: false,
+    }
+}
+
+// A good entry. Where the parent set its condition, Absolute (0) refuses it and Relative skips it.
+fn enter(mut w: Work, policy: BasicPolicy) -> Work
+    ensures { λ r. ⌜ r ≡ enterWork w policy ⌝ }
+{
+    let inherited = w.inherited;
+    let ActionFound::Action(a) = inherited.get_action(policy.condition) else {
+        let own = w.own;
+        w.own = own.apply(policy);
+        return w;
+    };
+    if w.option == 0 {
+        w.refused = true;
+        return w;
+    }
+    w
+}
+
+// One entry of the list.
+fn step(mut w: Work, policy: BasicPolicy) -> Work
+    ensures { λ r. ⌜ r ≡ stepWork w policy ⌝ }
+{
+    if bad_entry(policy) {
+        w.bad = true;
+        return w;
+    }
+    if w.refused {
+        return w;
+    }
+    enter(w, policy)
+}
+
+// -- The answer ----------------------------------------------------------------------------
+
+// The entries before a refused one stay set: the one refusal that leaves a change.
+fn policy_set(t: Tables, job: u8, w: Work) -> Reply
+    ensures { λ r. ⌜ r ≡ policySet t job (setting (w .own) (w .refused)) ⌝ }
+{
+    let own = w.own;
+    let u = t.with_own(job, own);
+    if w.refused {
+        return Reply::answered(u, ZxError::ALREADY_EXISTS);
+    }
+    Reply::answered(u, 0)
+}
+
+// After the last entry.
+fn finish(t: Tables, job: u8, option: u8, w: Work) -> Reply
+    ensures { λ r. ⌜ r ≡ finishWork t job option w ⌝ }
+{
+    if 1 < option {
+        return Reply::answered(t, Refusal::BAD_FIELD);
+    }
+    if w.bad {
+        return Reply::answered(t, Refusal::BAD_FIELD);
+    }
+    if 32 <= job {
+        return Reply::answered(t, Refusal::PAST_TABLE);
+    }
+    let FoundJob::OldJob(v) = t.job(job) else {
+        return Reply::answered(t, Refusal::NOT_MADE);
+    };
+    if !job_lists::job_empty(t, job) {
+        return Reply::answered(t, ZxError::BAD_STATE);
+    }
+    policy_set(t, job, w)
+}
+
+// -- The calls -----------------------------------------------------------------------------
+
+// `Job::set_policy_basic`, with a list of any length. A lent slice of structs: proved by a walk.
+pub fn set_policy_basic(t: Tables, job: u8, option: u8, policies: &[BasicPolicy]) -> Reply
+    ensures { λ r. ⌜ r ≡ setPolicyBasic t job option (now (policies .entry)) ⌝ }
+{
+    let mut w = begin(t, job, option);
+    let mut i = 0;
+    while i < policies.len() {
+        w = step(w, policies[i]);
+        i += 1;
+    }
+    finish(t, job, option, w)
+}
+
+// 0f: the same with at most four entries, by value; a count above 4 takes all four.
+pub fn set_policy_four(
+    t: Tables,
+    job: u8,
+    option: u8,
+    count: u8,
+    policies: [BasicPolicy; 4],
+) -> Reply
+    ensures { λ r. ⌜ r ≡ setPolicyBasic t job option (take count policies) ⌝ }
+{
+    let mut w = begin(t, job, option);
+    let n = count as usize;
+    let mut i: usize = 0;
+    while i < 4 {
+        if n <= i {
+            return finish(t, job, option, w);
+        }
+        w = step(w, policies[i]);
+        i += 1;
+    }
+    finish(t, job, option, w)
+}
