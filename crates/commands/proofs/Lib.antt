@@ -1,3 +1,4 @@
--- What the proofs of the commands cite.
+-- What the proofs of the commands cite, and the laws for those above.
 pub mod Signed
 pub mod Fronts
+pub mod Stays

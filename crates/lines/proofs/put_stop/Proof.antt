@@ -1,0 +1,26 @@
+use mathlib.Core.Path.{_≡_}
+use native.Mathlib.Omega.{arith}
+use borrow.Author.Needs.{needs}
+use Rattle.lines.specs.Line.{stopLine}
+use Rattle.lines.proofs.Puts.{put-then}
+use Rattle.lines.proofs.put_stop.Statement.{statement}
+use Rattle.lines.proofs.put_stop.Tie as tie
+
+returns : tie.Need-returns
+unfolding stopLine
+returns c =
+    let t = c .before .before in
+    let d = t .before .before .before .before .before in (
+      put-then (d .put-decimal .ensures .0) (t .put-text .ensures),
+      omega (arith, d .put-decimal .ensures .1, t .put-text .ensures .end),
+    )
+
+pub put-stop-spec : {M : Type 1} → statement M
+put-stop-spec =
+    tie.close
+    (tie.spec
+    (λ c κs. search needs)
+    (λ c. search needs)
+    (λ c κs. search needs)
+    (λ c. search needs)
+    returns)

@@ -1,0 +1,4 @@
+-- What the proofs of the recorder cite.
+pub mod Parts
+pub mod Feeding
+pub mod Whole

@@ -1,0 +1,164 @@
+-- `recorder::feed` meets its contract. The invariant: what is left to do from here, behind what is done,
+-- is the whole (proofs/Feeding.antt). The measure is what is left of the input.
+use Prim.Native.Nat.{ℕ, _+_, _-_, _≤_, _<_}
+use native.Mathlib.Nat.{sub-zero}
+use mathlib.Core.Path.{_≡_, refl, sym, _∙_}
+use native.Mathlib.Omega.{arith}
+use mathlib.Core.List.{List}
+use lib.ListN.{length, take, drop, length-take, length-drop}
+use lib.Seq.{length-take-le}
+use borrow.Author.Needs.{needs}
+use mir.Syntax.{w64}
+use mir.Val.{SFits}
+use mir.Facts.{toZ-ofZ}
+use Rattle.recorder.specs.declared.State.{State}
+use Rattle.recorder.specs.Recorder.{stateOf, fed, ahead}
+use Rattle.recorder.proofs.Feeding.{begins, full, waits, stops, goes, whole-fits}
+use Rattle.recorder.proofs.feed.Statement.{statement}
+use Rattle.recorder.proofs.feed.Tie as tie
+
+abbrev Inv-loop : tie.InvT-loop
+Inv-loop input out₀ t₀ number₀ at₀ written₀ out t number at written =
+    (at ≤ length input) × ((written ≤ length out) × ((length out ≡ length out₀) ×
+    (fed (length out₀) (stateOf t₀ number₀) input
+    ≡ ahead at (take written out) (fed (length out₀ - written) (stateOf t number) (drop at input)))))
+
+abbrev μ-loop : tie.MeasureT-loop
+μ-loop input out₀ t₀ number₀ at₀ written₀ out t number at written = length input - at
+
+-- what the function was passed, and where the loop is
+abbrev input : tie.At-loop Inv-loop μ-loop → List ℕ
+input a = a .before .before .before .before .args .input .now
+
+abbrev out₀ : tie.At-loop Inv-loop μ-loop → List ℕ
+out₀ a = a .before .before .before .before .args .out .now
+
+abbrev state : tie.At-loop Inv-loop μ-loop → State
+state a = a .before .before .before .before .args .state
+
+abbrev here : tie.At-loop Inv-loop μ-loop → State
+here a = stateOf (a .loop .t) (a .loop .number)
+
+loop-holds : tie.Need-loop-holds Inv-loop μ-loop
+loop-holds c = (omega arith, (omega arith, (refl, rw sub-zero (begins _))))
+
+returns : tie.Need-returns Inv-loop μ-loop
+returns c =
+    let l = c .before .before in
+    let b : l .loop .written ≤ length (l .loop .out) = l .loop .inv .1 .0 in
+    rw (c .fed-at .ensures) (
+      full (input l) (out₀ l) (l .loop .out) (state l) (here l) (l .loop .at) (l .loop .written)
+          (l .loop .inv)
+          (c .before .if1 .taken),
+      ((b, sym (length-take-le _ _ b)), l .loop .inv .0),
+    )
+
+returns-2 : tie.Need-returns-2 Inv-loop μ-loop
+returns-2 c =
+    let n = c .before .before .before in
+    let e = n .before .before in
+    let l = e .before in
+    let b : l .loop .written ≤ length (l .loop .out) = l .loop .inv .1 .0 in
+    rw (c .fed-at2 .ensures) (
+      waits (input l) (out₀ l) (l .loop .out) (state l) (here l) (l .loop .at) (l .loop .written)
+          (l .loop .inv)
+          (e .if1 .left) _ (n .next-of .ensures) (c .before .enum-told .given .1),
+      ((b, sym (length-take-le _ _ b)), l .loop .inv .0),
+    )
+
+returns-3 : tie.Need-returns-3 Inv-loop μ-loop
+returns-3 c =
+    let p = c .before .before .before in
+    let t = p .before .before .before in
+    let n = t .before .before in
+    let e = n .before .before in
+    let l = e .before in
+    let put = simp (p .before .next-number .ensures) at (p .put-stop .ensures .0) in
+    let b : p .put-stop .result ≤ length (p .put-stop .last .0) =
+    omega (arith, p .put-stop .ensures .1, p .put-stop .kept .0, e .if1 .left) in
+    rw (c .fed-at3 .ensures) (
+      stops (input l) (out₀ l) (l .loop .out) (state l) (here l) (l .loop .at) (l .loop .written)
+          (l .loop .inv)
+          (e .if1 .left) _ (n .next-of .ensures) (t .enum-told2 .given .1) put,
+      ((b, sym (length-take-le _ _ b)), l .loop .inv .0),
+    )
+
+-- past the match, with the command's size: it lies within the input
+fits : (c : tie.After-n Inv-loop μ-loop) →
+    let l = c .before .before .before .before .before in
+    (0 < c .n .given .0 .0) × (l .loop .at + c .n .given .0 .0 ≤ length (input l))
+fits c =
+    let n = c .before .before in
+    let e = n .before .before in
+    let l = e .before in
+    whole-fits (input l) (out₀ l) (l .loop .out) (state l) (here l) (l .loop .at) (l .loop .written)
+    (l .loop .inv)
+    (e .if1 .left) _ (n .next-of .ensures) _ (c .n .given .1)
+
+abbrev sized : tie.After-t2 Inv-loop μ-loop → tie.After-n Inv-loop μ-loop
+sized c = c .before .before .before .before .before .before .before .before .before .before .before
+
+loop-again : tie.Need-loop-again Inv-loop μ-loop
+loop-again c =
+    let p = c .before .before .before in
+    let m = p .before .before .before in
+    let f = m .before .before in
+    let k = f .before .before .before in
+    let n = k .before .before in
+    let e = n .before .before in
+    let l = e .before in
+    let got : SFits w64 (f .perform .result .answer) = search needs in
+    let put = simp (m .next-number2 .ensures, toZ-ofZ {w = w64} got) at (p .put-line .ensures .0) in
+    let g =
+    goes (input l) (out₀ l) (l .loop .out) (state l) (here l) (l .loop .at) (l .loop .written)
+    (l .loop .inv)
+    (e .if1 .left) _ (n .next-of .ensures) _ (k .n .given .1) _ (f .perform .ensures) put in (
+      fits k .1,
+      (
+        omega (arith, p .put-line .ensures .1, p .put-line .kept .0, e .if1 .left),
+        (p .put-line .kept .0 ∙ l .loop .inv .1 .1 .0, rw (m .next-number2 .ensures) g),
+      ),
+    )
+
+pub feed-spec : {M : Type 1} → statement M
+feed-spec =
+    tie.close
+    (tie.spec
+    Inv-loop
+    μ-loop
+    loop-holds
+    (λ c. omega arith)
+    (λ c κs. tt)
+    (λ c. c .before .before .loop .inv .1 .1 .0)
+    returns
+    (λ c. omega arith)
+    (λ c. omega arith)
+    (λ c. omega arith)
+    (λ c κs. tt)
+    (λ c. search needs)
+    (λ c κs. tt)
+    (λ c. c .before .before .before .before .before .before .loop .inv .1 .1 .0)
+    returns-2
+    (λ c. search needs)
+    (λ c κs. tt)
+    (λ c κs. omega (arith, c .before .before .before .before .before .before .if1 .left))
+    (λ c κs. tt)
+    (λ c. c .before .before .before .put-stop .kept .0 ∙ c .before .before .before .before .before
+    .before .before .before .before .before .before .loop .inv .1 .1 .0)
+    returns-3
+    (λ c. search needs)
+    (λ c. simp (length-take, length-drop) (omega (arith, fits (c .before .before) .1)))
+    (λ c κs. tt)
+    (λ c κs. tt)
+    (λ c κs. omega (
+      arith,
+      c .before .before .before .before .before .before .before .before .before .before
+          .before .if1 .left,
+    ))
+    (λ c. omega (
+      arith,
+      fits (sized c) .1,
+      sized c .before .before .before .before .before .before .before .before .before .good .1 .0 .0,
+    ))
+    (λ c. omega (arith, fits (sized c) .0, fits (sized c) .1))
+    loop-again)

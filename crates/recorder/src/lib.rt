@@ -1,0 +1,118 @@
+// recorder: a stream of commands, taken in parts of any size, and the lines that are written for it.
+// specs/Recorder.antt says what is written for a whole stream, and that no cut into parts changes it.
+ghost use mathlib.Core.Bool.{true};
+ghost use mathlib.Core.Path.{_≡_};
+ghost use Prim.Native.Nat.{_≤_};
+ghost use lib.ListN.{length};
+ghost use Rattle.io.specs.Counts.{Counts};
+ghost use Rattle.lines.specs.Line.{Put};
+ghost use Rattle.recorder.specs.Recorder.{nextNumber, freshState, fedAt, fed};
+ghost use Rattle.recorder.specs.Recorder.{Feeds, closedWithin, Recorder};
+use commands::Next;
+use records::tables::Tables;
+
+// Where a stream stands: the tables, and the number of the last line.
+pub struct State {
+    pub tables: Tables,
+    pub number: u64,
+}
+
+// How far a call of `feed` came.
+pub struct Fed {
+    pub state: State,
+    pub consumed: usize,
+    pub written: usize,
+    // Whether the stream has ended at what is no command.
+    pub finished: bool,
+}
+
+// No line is longer.
+pub const LINE: usize = 128;
+
+// A fresh root, and no line yet.
+pub fn fresh() -> State
+    ensures { λ r. ⌜ r ≡ freshState ⌝ }
+{
+    State {
+        tables: Tables::fresh(),
+        number: 0,
+    }
+}
+
+// Lines are numbered from 1. No run reaches 2^64 - 1, the last number.
+fn next_number(n: u64) -> u64
+    ensures { λ r. ⌜ r ≡ nextNumber n ⌝ }
+{
+    if n < u64::MAX {
+        return n + 1;
+    }
+    n
+}
+
+fn fed_at(tables: Tables, number: u64, consumed: usize, written: usize, finished: bool) -> Fed
+    ensures { λ r. ⌜ r ≡ fedAt tables number consumed written finished ⌝ }
+{
+    Fed {
+        state: State { tables, number },
+        consumed,
+        written,
+        finished,
+    }
+}
+
+// Performs whole commands from the front of `input` while `out` has room for a line, and says how far it came.
+pub fn feed(state: State, input: &[u8], out: &mut [u8]) -> Fed
+    ensures { λ r. ⌜ Feeds (fed (length (now (out .entry))) state (now (input .entry))) r (now (out .exit)) ⌝ }
+    ensures { λ r. ⌜ Counts (r .written) (now (out .exit)) ⌝ }
+    ensures { λ r. ⌜ r .consumed ≤ length (now (input .entry)) ⌝ }
+{
+    let mut t = state.tables;
+    let mut number = state.number;
+    let mut at: usize = 0;
+    let mut written: usize = 0;
+    loop {
+        if out.len() - written < LINE {
+            return fed_at(t, number, at, written, false);
+        }
+        let rest = &input[at..];
+        match commands::next_of(rest) {
+            Next::Wait => {
+                return fed_at(t, number, at, written, false);
+            }
+            Next::Stop => {
+                written = lines::put_stop(out, written, next_number(number));
+                return fed_at(t, number, at, written, true);
+            }
+            Next::Whole(n) => {
+                let r = calls::perform(t, &rest[..n]);
+                let fields = r.fields;
+                let policy = r.policy;
+                number = next_number(number);
+                written = lines::put_line(out, written, number, r.answer, fields, policy);
+                t = r.tables;
+                at += n;
+            }
+        }
+    }
+}
+
+// At the end of the input: a command that was cut stops. A buffer with no room for a line gets nothing.
+pub fn close(state: State, left: &[u8], out: &mut [u8]) -> usize
+    ensures { λ r. ⌜ Put (now (out .entry)) (now (out .exit)) 0 r (closedWithin (length (now (out .entry))) state (now (left .entry))) ⌝ }
+    ensures { λ r. ⌜ Counts r (now (out .exit)) ⌝ }
+{
+    if out.len() < LINE {
+        return 0;
+    }
+    if left.len() == 0 {
+        return 0;
+    }
+    lines::put_stop(out, 0, next_number(state.number))
+}
+
+// What holds of the definitions: no cut of the input into parts changes what is written.
+pub fn claims() -> bool
+    ensures { λ r. ⌜ (r ≡ true) × Recorder ⌝ }
+{
+    true
+}
