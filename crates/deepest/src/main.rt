@@ -1,8 +1,13 @@
 // deepest: the deepest cascade, for its stack. Writes how many jobs it killed.
+use record_exception::Exception;
+use record_exception::ExceptionType;
+use record_exception::Place;
 use record_job::Job;
 use record_process::Process;
 use record_process::Status;
 use record_thread::Thread;
+use record_thread::ThreadState;
+use record_thread::Waiting;
 use records::tables::Tables;
 
 // A running process of a job, critical to a job.
@@ -12,7 +17,20 @@ fn critical(job: u8, bound: u8) -> Process {
     running.bind_to(bound, false)
 }
 
-// 32 jobs in a chain. Process k of job k is critical to the job above, process 32 + k lists thread k.
+// A thread of a process that waits in an exception at its own level.
+fn waiting(process: u8) -> Thread {
+    let v = Thread::new(process);
+    let started = v.start();
+    let e = Exception {
+        kind: ExceptionType::GENERAL,
+        place: Place::OwnThread,
+        handled: false,
+        second: false,
+    };
+    started.waits(ThreadState::BLOCKED_EXCEPTION, Waiting::InException(e))
+}
+
+// 32 jobs in a chain. Process k of job k is critical to the job above, process 32 + k lists thread k, which waits.
 // Process 0, with thread 0, is critical to the lowest job, its own, and process 32 to the root, its own.
 fn chain() -> Tables {
     let mut t = Tables::fresh();
@@ -21,7 +39,7 @@ fn chain() -> Tables {
         t = t.with_job(k, Job::new(above));
         t = t.with_process(k, critical(k, above));
         t = t.with_process(32 + k, Process::new(k));
-        t = t.with_thread(k, Thread::new(32 + k));
+        t = t.with_thread(k, waiting(32 + k));
         above = k;
     }
     t = t.with_process(0, critical(above, above));
