@@ -1,14 +1,14 @@
--- Texts in a buffer, one after another.
---     put-then     one text after another
---     put-one      one byte
---     put-none     no byte
+-- Texts in a buffer.
+--     put-then            one text after another
+--     put-one, put-none   one byte, no byte
+--     Going               a loop that writes a byte a turn: its start and a turn
 -- Assumes nothing.
 use Prim.Native.Nat.{ℕ, _+_, _<_}
 use native.Mathlib.Omega.{arith}
 use native.Mathlib.Numerals.{add-one}
 use mathlib.Core.Path.{_≡_, refl, sym, _∙_}
 use mathlib.Core.List.{List, [], _∷_, _++_, append-assoc, append-nil}
-use lib.ListN.{length, set, take, length-append}
+use lib.ListN.{length, set, take, length-append, length-set}
 use lib.Seq.{take-suc-set}
 use Rattle.lines.specs.Line.{Put}
 
@@ -22,8 +22,25 @@ put-then {a = a} {i = i} {x = x} {y = y} p q =
 
 pub put-one : (l : List ℕ) (at byte : ℕ) → at < length l →
     Put l (set l at byte) at (at + 1) (byte ∷ [])
-put-one l at byte h =
-    record { end = refl; holds = rw (add-one, take-suc-set l at byte) }
+put-one l at byte h = record { end = refl; holds = rw (add-one, take-suc-set l at byte) }
 
 pub put-none : (l : List ℕ) (at : ℕ) → Put l l at at []
 put-none l at = record { end = omega arith; holds = sym (append-nil (take at l)) }
+
+-- after i turns, with the next byte to go to o
+pub record Going (before now : List ℕ) (at i o : ℕ) (text : List ℕ) : Type 0 where
+  pub place : o ≡ at + i
+  pub long : length now ≡ length before
+  pub put : Put before now at o text
+
+pub go-from : (l : List ℕ) (at : ℕ) → Going l l at 0 at []
+go-from l at = record { place = omega arith; long = refl; put = put-none l at }
+
+pub go-on : {a b : List ℕ} {at i o : ℕ} {x : List ℕ} (byte : ℕ) → Going a b at i o x →
+    o < length b → Going a (set b o byte) at (i + 1) (o + 1) (x ++ byte ∷ [])
+go-on {b = b} {o = o} byte g h =
+    record {
+      place = omega (arith, g .place);
+      long = simp length-set (g .long);
+      put = put-then (g .put) (put-one b o byte h);
+    }

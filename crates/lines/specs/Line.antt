@@ -12,8 +12,8 @@ use Rattle.job_policy.specs.declared.JobPolicy.{JobPolicy}
 use Rattle.job_policy.specs.declared.ActionFound.{ActionFound}
 use Rattle.job_policy.specs.declared.ActionFound.the-variants.{Unset, Action}
 use Rattle.records.specs.declared.reply.Fields.{Fields}
-use Rattle.records.specs.declared.reply.Fields.the-variants.{NoFields, OwnerField}
-use Rattle.records.specs.declared.reply.Fields.the-variants.{JobFields, ProcessFields, ThreadFields}
+use Rattle.records.specs.declared.reply.Fields.the-variants.{NoFields, OwnerField, JobFields}
+use Rattle.records.specs.declared.reply.Fields.the-variants.{ProcessFields, ThreadFields}
 
 -- ---- Characters ----------------------------------------------------------------------------
 
@@ -71,17 +71,26 @@ policyText p = policyChars p 15
 abbrev pub field : List ℕ → List ℕ
 field text = SPACE ∷ text
 
+unfoldable pub jobText : (killed terminated : Bool) (amount : ℤ) (mode : ℕ) → JobPolicy → List ℕ
+jobText killed terminated amount mode policy =
+    field (flagText killed) ++ field (flagText terminated) ++ field (signedText amount)
+    ++ field (decimalText mode) ++ field (policyText policy)
+
+unfoldable pub processText : (code : ℤ) (started exited debugger terminated : Bool) → List ℕ
+processText code started exited debugger terminated =
+    field (signedText code) ++ field (flagText started) ++ field (flagText exited)
+    ++ field (flagText debugger) ++ field (flagText terminated)
+
+unfoldable pub threadText : (state level suspends : ℕ) → List ℕ
+threadText state level suspends =
+    field (decimalText state) ++ field (decimalText level) ++ field (decimalText suspends)
+
 unfoldable pub fieldsText : Fields → JobPolicy → List ℕ
 fieldsText NoFields p = []
 fieldsText (OwnerField n) p = field (decimalText n)
-fieldsText (JobFields killed terminated amount mode) p =
-    field (flagText killed) ++ field (flagText terminated) ++ field (signedText amount)
-    ++ field (decimalText mode) ++ field (policyText p)
-fieldsText (ProcessFields code started exited debugger terminated) p =
-    field (signedText code) ++ field (flagText started) ++ field (flagText exited)
-    ++ field (flagText debugger) ++ field (flagText terminated)
-fieldsText (ThreadFields state level suspends) p =
-    field (decimalText state) ++ field (decimalText level) ++ field (decimalText suspends)
+fieldsText (JobFields k t a m) p = jobText k t a m p
+fieldsText (ProcessFields c s e d t) p = processText c s e d t
+fieldsText (ThreadFields s l n) p = threadText s l n
 
 unfoldable pub lineOf : (number : ℕ) (answer : ℤ) → Fields → JobPolicy → List ℕ
 lineOf number answer fields p =

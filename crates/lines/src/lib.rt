@@ -1,11 +1,10 @@
-// lines: a reply as a line of text in a lent buffer. Helpers of the recorder, not entry points: `feed` checks
-// that there is room for a line, so the functions here require it. No line is longer than 128 bytes.
+// lines: a reply as a line of text in a lent buffer. No line is longer than 128 bytes.
+// Helpers of the recorder, not entry points: `feed` checks the room, so they may require it.
 ghost use Prim.Native.Nat.{_+_, _≤_};
-ghost use mathlib.Core.List.{_++_};
 ghost use lib.ListN.{length};
 ghost use Rattle.lines.specs.Line.{field, flagText, decimalText, signedText, policyText};
-ghost use Rattle.lines.specs.Line.{fieldsText, lineOf, stopLine, Put};
-ghost use Rattle.records.specs.declared.reply.Fields.the-variants.{JobFields, ProcessFields, ThreadFields};
+ghost use Rattle.lines.specs.Line.{jobText, processText, threadText, fieldsText};
+ghost use Rattle.lines.specs.Line.{lineOf, stopLine, Put};
 use job_policy::JobPolicy;
 use records::reply::Fields;
 
@@ -68,7 +67,8 @@ fn put_job_fields(
     policy: JobPolicy,
 ) -> usize
     requires { ⌜ at + 63 ≤ length (now out) ⌝ }
-    ensures { λ r. ⌜ Put (now (out .entry)) (now (out .exit)) at r (fieldsText (JobFields killed terminated amount mode) policy) ⌝ }
+    ensures { λ r. ⌜ Put (now (out .entry)) (now (out .exit)) at r
+        (jobText killed terminated amount mode policy) ⌝ }
     ensures { λ r. ⌜ r ≤ at + 63 ⌝ }
 {
     let a = flag_field(out, at, killed);
@@ -86,10 +86,10 @@ fn put_process_fields(
     exited: bool,
     debugger: bool,
     terminated: bool,
-    policy: JobPolicy,
 ) -> usize
     requires { ⌜ at + 63 ≤ length (now out) ⌝ }
-    ensures { λ r. ⌜ Put (now (out .entry)) (now (out .exit)) at r (fieldsText (ProcessFields code started exited debugger terminated) policy) ⌝ }
+    ensures { λ r. ⌜ Put (now (out .entry)) (now (out .exit)) at r
+        (processText code started exited debugger terminated) ⌝ }
     ensures { λ r. ⌜ r ≤ at + 63 ⌝ }
 {
     let a = signed_field(out, at, code);
@@ -99,16 +99,10 @@ fn put_process_fields(
     flag_field(out, d, terminated)
 }
 
-fn put_thread_fields(
-    out: &mut [u8],
-    at: usize,
-    state: u16,
-    level: u8,
-    suspends: u16,
-    policy: JobPolicy,
-) -> usize
+fn put_thread_fields(out: &mut [u8], at: usize, state: u16, level: u8, suspends: u16) -> usize
     requires { ⌜ at + 63 ≤ length (now out) ⌝ }
-    ensures { λ r. ⌜ Put (now (out .entry)) (now (out .exit)) at r (fieldsText (ThreadFields state level suspends) policy) ⌝ }
+    ensures { λ r. ⌜ Put (now (out .entry)) (now (out .exit)) at r
+        (threadText state level suspends) ⌝ }
     ensures { λ r. ⌜ r ≤ at + 63 ⌝ }
 {
     let a = decimal_field(out, at, state as u64);
@@ -136,12 +130,12 @@ fn put_fields(out: &mut [u8], at: usize, fields: Fields, policy: JobPolicy) -> u
             exited,
             debugger,
             terminated,
-        } => put_process_fields(out, at, code, started, exited, debugger, terminated, policy),
+        } => put_process_fields(out, at, code, started, exited, debugger, terminated),
         Fields::ThreadFields {
             state,
             level,
             suspends,
-        } => put_thread_fields(out, at, state, level, suspends, policy),
+        } => put_thread_fields(out, at, state, level, suspends),
     }
 }
 
@@ -157,7 +151,8 @@ pub fn put_line(
     policy: JobPolicy,
 ) -> usize
     requires { ⌜ at + 128 ≤ length (now out) ⌝ }
-    ensures { λ r. ⌜ Put (now (out .entry)) (now (out .exit)) at r (lineOf number answer fields policy) ⌝ }
+    ensures { λ r. ⌜ Put (now (out .entry)) (now (out .exit)) at r
+        (lineOf number answer fields policy) ⌝ }
     ensures { λ r. ⌜ r ≤ at + 128 ⌝ }
 {
     let a = put_decimal(out, at, number);
@@ -172,6 +167,6 @@ pub fn put_stop(out: &mut [u8], at: usize, number: u64) -> usize
     ensures { λ r. ⌜ Put (now (out .entry)) (now (out .exit)) at r (stopLine number) ⌝ }
     ensures { λ r. ⌜ r ≤ at + 128 ⌝ }
 {
-    let a = put_decimal(out, at, number);
-    put_text(out, a, b" stop\n")
+    let end = put_decimal(out, at, number);
+    put_text(out, end, b" stop\n")
 }

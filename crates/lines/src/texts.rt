@@ -1,13 +1,16 @@
-// texts.rt: a byte, a text, a number, a flag and a policy, each written at a place of a lent buffer.
-// Each answers the place after what it wrote.
+// texts.rt: a byte, a text, a number, a flag or a policy written at a place of a lent buffer.
+// Each function answers the place after what it wrote.
 ghost use mathlib.Core.Path.{_≡_};
 ghost use mathlib.Core.List.{[], _∷_};
 ghost use Prim.Native.Nat.{_+_, _≤_};
 ghost use lib.ListN.{length};
 ghost use lib.IntN.{natAbs};
-ghost use Rattle.lines.specs.Line.{decimalText, signedText, flagText, actionChar, policyText, Put};
+ghost use Rattle.lines.specs.Line.{decimalText, signedText, flagText, actionChar, policyText};
+ghost use Rattle.lines.specs.Line.{Put};
 use job_policy::ActionFound;
 use job_policy::JobPolicy;
+
+// -- Bytes ---------------------------------------------------------------------------------
 
 pub fn put_byte(out: &mut [u8], at: usize, byte: u8) -> usize
     requires { ⌜ at + 1 ≤ length (now out) ⌝ }
@@ -31,7 +34,39 @@ pub fn put_text(out: &mut [u8], at: usize, text: &[u8]) -> usize
     o
 }
 
-// Most numbers have one digit.
+// -- Numbers -------------------------------------------------------------------------------
+
+// How many digits n has. The power stays at or below n, so it does not overflow.
+fn places(n: u64) -> usize
+    ensures { λ r. ⌜ r ≡ length (decimalText n) ⌝ }
+{
+    let tenth = n / 10;
+    let mut k: usize = 1;
+    let mut power: u64 = 1;
+    while power <= tenth {
+        power *= 10;
+        k += 1;
+    }
+    k
+}
+
+// Writes the k digits of n, the last one first.
+fn put_digits(out: &mut [u8], at: usize, n: u64, k: usize) -> usize
+    requires { ⌜ (at + k ≤ length (now out)) × (k ≡ length (decimalText n)) ⌝ }
+    ensures { λ r. ⌜ Put (now (out .entry)) (now (out .exit)) at r (decimalText n) ⌝ }
+{
+    let end = at + k;
+    let mut i = end;
+    let mut rest = n;
+    while at < i {
+        i -= 1;
+        out[i] = 48 + (rest % 10) as u8;
+        rest /= 10;
+    }
+    end
+}
+
+// Most numbers have one digit, and go straight to their place.
 pub fn put_decimal(out: &mut [u8], at: usize, n: u64) -> usize
     requires { ⌜ at + 20 ≤ length (now out) ⌝ }
     ensures { λ r. ⌜ Put (now (out .entry)) (now (out .exit)) at r (decimalText n) ⌝ }
@@ -40,9 +75,7 @@ pub fn put_decimal(out: &mut [u8], at: usize, n: u64) -> usize
     if n < 10 {
         return put_byte(out, at, 48 + n as u8);
     }
-    let mut digits = [0u8; 20];
-    let k = io::decimal(n, &mut digits);
-    put_text(out, at, &digits[..k])
+    put_digits(out, at, n, places(n))
 }
 
 // How far z is from 0; -1 - z is no overflow where z is below 0.
@@ -67,6 +100,8 @@ pub fn put_signed(out: &mut [u8], at: usize, z: i64) -> usize
     }
     put_decimal(out, at, n)
 }
+
+// -- Flags and policies --------------------------------------------------------------------
 
 pub fn put_flag(out: &mut [u8], at: usize, flag: bool) -> usize
     requires { ⌜ at + 1 ≤ length (now out) ⌝ }

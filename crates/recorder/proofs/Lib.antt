@@ -1,4 +1,5 @@
 -- What the proofs of the recorder cite.
 pub mod Parts
 pub mod Feeding
+pub mod Answered
 pub mod Whole

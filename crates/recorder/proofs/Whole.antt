@@ -29,6 +29,7 @@ use Rattle.recorder.specs.Recorder.{freshState, replyTo, after, line, li
 use Rattle.recorder.specs.Recorder.{Part, part, ahead, fedStep, fedWithin, fed, transcriptStep, transcript}
 use Rattle.recorder.specs.Recorder.{Event, read, call, bytesOf, progress, Drained, Recorder}
 use Rattle.recorder.proofs.Parts.{fed-is, transcript-is}
+use Rattle.recorder.proofs.Answered.{as-answered}
 
 module _ (bs cs : List ℕ) where
   -- the reply to a whole command, whatever follows it
@@ -180,4 +181,5 @@ any-parts s bs (call room ∷ es) d =
     ∙ sym (part-law room s bs (bytesOf es))
 
 pub recorder : Recorder
-recorder = record { anyParts = λ es d. any-parts freshState [] es d }
+recorder =
+    record { anyParts = λ es d. any-parts freshState [] es d; asAnswered = λ bs. as-answered freshState bs }

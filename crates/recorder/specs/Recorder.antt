@@ -11,7 +11,7 @@ use Rattle.laws.specs.Choice.{_<?_, _=?_, if_then_else_}
 use Rattle.records.specs.declared.tables.Tables.{Tables}
 use Rattle.records.specs.declared.reply.Reply.{Reply}
 use Rattle.records.specs.Tables.{freshTables}
-use Rattle.model.specs.Step.{step}
+use Rattle.model.specs.Step.{Call, Shown, step, answers}
 use Rattle.commands.specs.declared.Next.{Next}
 use Rattle.commands.specs.declared.Next.the-variants.{Wait, Stop, Whole}
 use Rattle.commands.specs.Commands.{nextOf}
@@ -143,7 +143,37 @@ Drained s bs (call room ∷ es) =
     let p = fed room s bs in
     p .finished ≡ false → Drained (p .state) (drop (p .consumed) bs) es
 
--- any reads and calls, with any room, write the transcript of all that was read
+-- ---- As the model answers ------------------------------------------------------------------
+
+-- the calls of a stream, up to its end or to what is no command
+unfoldable pub callsWithin : ℕ → List ℕ → List Call
+callsWithin zero bs = []
+callsWithin (suc f) bs =
+    onNext (nextOf bs) [] [] (λ n. callIn (take n bs) ∷ callsWithin f (drop n bs))
+
+unfoldable pub callsIn : List ℕ → List Call
+callsIn bs = callsWithin (suc (length bs)) bs
+
+-- what is left after them
+unfoldable pub leftWithin : ℕ → List ℕ → List ℕ
+leftWithin zero bs = []
+leftWithin (suc f) bs = onNext (nextOf bs) bs bs (λ n. leftWithin f (drop n bs))
+
+unfoldable pub leftIn : List ℕ → List ℕ
+leftIn bs = leftWithin (suc (length bs)) bs
+
+-- a line for each answer, numbered from the one after n; then `stop`, if anything is left
+unfoldable pub linesFrom : ℕ → List Shown → List ℕ → List ℕ
+linesFrom n [] left = if length left =? 0 then [] else stopLine (nextNumber n)
+linesFrom n (x ∷ l) left =
+    lineOf (nextNumber n) (x .answer) (x .fields) (x .policy) ++ linesFrom (nextNumber n) l left
+
+-- ---- The claim -----------------------------------------------------------------------------
+
 pub record Recorder : Type 0 where
+  -- any reads and calls, with any room, write the transcript of all that was read
   pub anyParts : (es : List Event) → Drained freshState [] es →
       progress freshState [] es ≡ transcript freshState (bytesOf es)
+  -- and that is a line for each answer of the model to the calls that were read
+  pub asAnswered : (bs : List ℕ) →
+      transcript freshState bs ≡ linesFrom 0 (answers freshTables (callsIn bs)) (leftIn bs)

@@ -1,4 +1,3 @@
-use mathlib.Core.Path.{_≡_}
 use native.Mathlib.Omega.{arith}
 use borrow.Author.Needs.{needs}
 use mir.Syntax.{w64}
@@ -16,35 +15,32 @@ returns c = (rw (c .enum-told .given .1) (put-none _ _), omega arith)
 returns-2 : tie.Need-returns-2
 unfolding fieldsText
 returns-2 c =
-    let d = c .before .before in (
-      rw (d .before .before .before .fields .given .1) (d .decimal-field .ensures .0),
-      omega (arith, d .decimal-field .ensures .1),
-    )
+    let d = c .before .before in
+    let g = d .before .before .before .fields .given in
+    (rw (g .1) (d .decimal-field .ensures .0), omega arith)
 
 returns-3 : tie.Need-returns-3
+unfolding fieldsText
 returns-3 c =
     let d = c .before .before in
     let g = d .before .before .before .fields2 .given in
-    let f : SFits w64 (g .0 .1 .1 .0) = search needs in (
-      rw (g .1) (rw (number-is _ f) at (d .put-job-fields .ensures .0)),
-      omega (arith, d .put-job-fields .ensures .1),
-    )
+    let f : SFits w64 (g .0 .1 .1 .0) = search needs in
+    (rw (g .1) (rw (number-is _ f) at (d .put-job-fields .ensures .0)), omega arith)
 
 returns-4 : tie.Need-returns-4
+unfolding fieldsText
 returns-4 c =
     let d = c .before .before in
     let g = d .before .before .before .fields3 .given in
-    let f : SFits w64 (g .0 .0) = search needs in (
-      rw (g .1) (rw (number-is _ f) at (d .put-process-fields .ensures .0)),
-      omega (arith, d .put-process-fields .ensures .1),
-    )
+    let f : SFits w64 (g .0 .0) = search needs in
+    (rw (g .1) (rw (number-is _ f) at (d .put-process-fields .ensures .0)), omega arith)
 
 returns-5 : tie.Need-returns-5
+unfolding fieldsText
 returns-5 c =
-    let d = c .before .before in (
-      rw (d .before .before .before .fields4 .given .1) (d .put-thread-fields .ensures .0),
-      omega (arith, d .put-thread-fields .ensures .1),
-    )
+    let d = c .before .before in
+    let g = d .before .before .before .fields4 .given in
+    (rw (g .1) (d .put-thread-fields .ensures .0), omega arith)
 
 pub put-fields-spec : {M : Type 1} → statement M
 put-fields-spec =

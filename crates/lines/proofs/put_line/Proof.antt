@@ -2,7 +2,7 @@ use native.Mathlib.Omega.{arith}
 use borrow.Author.Needs.{needs}
 use Rattle.lines.specs.Line.{lineOf}
 use Rattle.lines.proofs.Puts.{put-then}
-use Rattle.lines.proofs.Numbers.{number-is}
+use Rattle.lines.proofs.Numbers.{put-read}
 use Rattle.lines.proofs.put_line.Statement.{statement}
 use Rattle.lines.proofs.put_line.Tie as tie
 
@@ -13,18 +13,12 @@ returns c =
     let f = e .before .before .before .before in
     let a = f .before .before .before .before in
     let d = a .before .before .before .before in
-    let n = number-is _ (d .before .before .before .fits .answer) in (
-      put-then (put-then (put-then (d .put-decimal .ensures .0) (rw n at (a .signed-field .ensures .0)))
-          (f .put-fields .ensures .0))
-          (e .put-byte .ensures),
-      omega (
-        arith,
-        d .put-decimal .ensures .1,
-        a .signed-field .ensures .1,
-        f .put-fields .ensures .1,
-        e .put-byte .ensures .end,
-      ),
-    )
+    let s₀ = d .before .before .before in
+    let n = put-read (s₀ .args .answer) (s₀ .fits .answer) (a .signed-field .ensures .0) in
+    let p₁ = put-then (d .put-decimal .ensures .0) n in
+    let p₂ = put-then p₁ (f .put-fields .ensures .0) in
+    let p₃ = put-then p₂ (e .put-byte .ensures) in
+    (p₃, omega arith)
 
 pub put-line-spec : {M : Type 1} → statement M
 put-line-spec =

@@ -1,4 +1,3 @@
-use mathlib.Core.Path.{_≡_}
 use native.Mathlib.Omega.{arith}
 use borrow.Author.Needs.{needs}
 use Rattle.lines.specs.Line.{stopLine}
@@ -10,10 +9,8 @@ returns : tie.Need-returns
 unfolding stopLine
 returns c =
     let t = c .before .before in
-    let d = t .before .before .before .before .before in (
-      put-then (d .put-decimal .ensures .0) (t .put-text .ensures),
-      omega (arith, d .put-decimal .ensures .1, t .put-text .ensures .end),
-    )
+    let d = t .before .before .before .before .before in
+    (put-then (d .put-decimal .ensures .0) (t .put-text .ensures), omega arith)
 
 pub put-stop-spec : {M : Type 1} → statement M
 put-stop-spec =

@@ -9,10 +9,8 @@ returns : tie.Need-returns
 returns c =
     let f = c .before .before in
     let s = f .before .before .before .before in
-    let n = number-is _ (s .before .before .before .fits .z) in (
-      put-then (s .put-byte .ensures) (rw n at (f .put-signed .ensures .0)),
-      omega (arith, s .put-byte .ensures .end, f .put-signed .ensures .1),
-    )
+    let n = number-is _ (s .before .before .before .fits .z) in
+    (put-then (s .put-byte .ensures) (rw n at (f .put-signed .ensures .0)), omega arith)
 
 pub signed-field-spec : {M : Type 1} → statement M
 signed-field-spec =

@@ -9,14 +9,14 @@ unfolding flagText
 returns c =
     let b = c .before .before in
     let p = b .put-byte .ensures in
-    (rw (b .before .before .if1 .taken) p, omega (arith, p .end))
+    (rw (b .before .before .if1 .taken) p, omega arith)
 
 returns-2 : tie.Need-returns-2
 unfolding flagText
 returns-2 c =
     let b = c .before .before in
     let p = b .put-byte2 .ensures in
-    (rw (b .before .before .if1 .left) p, omega (arith, p .end))
+    (rw (b .before .before .if1 .left) p, omega arith)
 
 pub put-flag-spec : {M : Type 1} → statement M
 put-flag-spec =
