@@ -96,7 +96,7 @@ def count_pack(count, path):
     name = os.path.basename(path)
     pack = read_pack(path)
     total, accepted = 0, 0
-    for number, (calls, lines) in enumerate(pack):
+    for number, (calls, lines) in enumerate(pack, 1):
         got = count_list(count, f"{name}, list {number}", calls, lines.decode("ascii").splitlines())
         total, accepted = total + len(got), accepted + sum(answer >= 0 and answer <= 100 for answer in got)
     count.packs.append((name, len(pack), total, accepted, os.path.getsize(path)))
