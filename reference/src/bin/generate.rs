@@ -39,7 +39,7 @@ const USAGE: &str = "usage:
   generate exhaustive --alphabet NAME --depth D                         > batch
   generate one --seed S --calls N [--profile NAME]                      > one plain command file
   generate pack                                                 < batch > pack
-profiles: mixed trees exceptions waits suspends policies refusals
+profiles: mixed trees exceptions waits suspends policies refusals information kills
 alphabets:
 ";
 

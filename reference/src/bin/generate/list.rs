@@ -5,7 +5,7 @@ use crate::choose::{next_call, Chosen, Task};
 use crate::layout::{operands, DYING};
 use crate::profile::Profile;
 use crate::rng::Rng;
-use crate::view::{is_able, View};
+use crate::view::{has_exited, is_able, View};
 use reference::commands::{decode, Decoded};
 use reference::harness::Harness;
 use reference::records::Records;
@@ -89,10 +89,21 @@ fn is_steady(call: &[u8], records: &Records) -> bool {
     match call[0] {
         0x02 if call[1] == 0 => false,
         0x07 if call[2] == 0 => false,
+        0x02 | 0x05 | 0x06 | 0x0a if is_over(call, records) => true,
         0x02 | 0x05 | 0x06 | 0x0a | 0x0b | 0x0c => acting > KEPT,
         // An ordinary exception that nobody handles exits the process.
         0x14 if call[3] < 0x80 => acting > KEPT,
         _ => true,
+    }
+}
+
+/// Whether a kill or an exit comes too late to change anything.
+fn is_over(call: &[u8], records: &Records) -> bool {
+    let (view, name) = (View(records), call[1]);
+    match call[0] {
+        0x02 => view.job(name).map_or(false, |job| job.killed),
+        0x0a => view.thread(name).map_or(false, |thread| thread.killed || thread.finished),
+        _ => view.process(name).map_or(false, has_exited),
     }
 }
 

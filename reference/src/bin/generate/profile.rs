@@ -1,5 +1,5 @@
 //! What a list is about: how often each command is tried, how often the operands are chosen with
-//! an eye on the records, and how often a call is spoiled. `mixed` picks one of the others.
+//! an eye on the records, and how often a call is spoiled. `mixed` picks one of the first six.
 
 use crate::rng::Rng;
 
@@ -16,7 +16,7 @@ pub struct Profile {
 }
 
 #[rustfmt::skip]
-pub const PROFILES: [Profile; 6] = [
+pub const PROFILES: [Profile; 8] = [
     // Deep trees with critical bindings upward, killed at every height.
     Profile { name: "trees", aimed: 58, spoiled: 11, chained: 40, weights: [
     //  01  02  03  04  05  06  07  08  09  0a  0b  0c  0d  0e  0f  10
@@ -49,12 +49,25 @@ pub const PROFILES: [Profile; 6] = [
          8,  2,  8,  5,  3,  2,  5, 10, 10,  3,  3,  3,  6,  5,  5,  4,
          4,  8,  4,  8,  4,  4,  4,  4,  5,  5,  3,  3,  5,  5,  5,
     ]},
+    // For the bench: records are made, and then asked about.
+    Profile { name: "information", aimed: 70, spoiled: 1, chained: 0, weights: [
+         2,  1,  2,  1,  1,  1,  1,  3,  2,  1,  1,  1,  1,  1,  1,  1,
+         1,  1,  1,  1,  1,  1,  1,  1,  1,  1,160,160,160,  1,  1,
+    ]},
+    // For the bench: records are made, killed, and killed again.
+    Profile { name: "kills", aimed: 20, spoiled: 1, chained: 0, weights: [
+         6, 80,  6,  2, 20, 60,  4, 10,  8, 80,  2,  2,  1,  1,  1,  1,
+         1,  1,  1,  1,  1,  1,  1,  1,  1,  1,  1,  1,  1,  1,  1,
+    ]},
 ];
+
+/// How many of them `mixed` picks from.
+const MIXED: usize = 6;
 
 /// The profile of that name; `mixed` picks by chance. `None` if there is none.
 pub fn profile(name: &str, rng: &mut Rng) -> Option<&'static Profile> {
     if name == "mixed" {
-        return Some(&PROFILES[rng.below(PROFILES.len())]);
+        return Some(&PROFILES[rng.below(MIXED)]);
     }
     PROFILES.iter().find(|profile| profile.name == name)
 }
