@@ -20,10 +20,16 @@ python3 "$here/lists.py" seeds "$here/../crates/replay/data/named.pack" "$out/se
 nice -n 10 afl-fuzz $mode -i "$out/seeds" -o "$out/found" -t 1000 -m none -G 4096 -V $((minutes * 60)) \
     -- "$program" >"$out/log" 2>&1 || { tail -n 20 "$out/log" >&2; exit 1; }
 found=$out/found/default
-[ -n "$mode" ] && echo "afl-fuzz without coverage" || echo "afl-fuzz by coverage"
-grep -E '^(run_time|execs_done|corpus_count|edges_found|total_edges|saved_crashes|saved_hangs|stability)' "$found/fuzzer_stats"
+if [ -n "$mode" ]; then
+    found=$out/found
+    echo "afl-fuzz without coverage"
+    sed -n 's/.*Statistics: \([^[:cntrl:]]*\).*/\1/p' "$out/log"
+else
+    echo "afl-fuzz by coverage"
+    grep -E '^(run_time|execs_done|corpus_count|edges_found|total_edges|saved_crashes|saved_hangs)' "$found/fuzzer_stats"
+fi
 for bad in crashes hangs; do
-    if ! grep -qE "^saved_$bad +: 0\$" "$found/fuzzer_stats"; then
+    if [ -n "$(ls "$found/$bad")" ]; then
         echo "fuzz.sh: $bad in $found/$bad" >&2
         status=1
     fi
