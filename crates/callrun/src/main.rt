@@ -1,15 +1,22 @@
 // callrun: reads commands from standard input to its end and writes a line for each. What is written for which bytes is
-// `recorder`'s, and proved there; here the bytes are moved. A read or a write that fails ends the program with a message.
+// `recorder`'s; here the bytes are moved, none lost and none changed. A read or a write that fails ends the program with a
+// message.
+ghost use Prim.Native.Nat.{_-_, _≤_};
+ghost use mathlib.Core.Path.{_≡_};
+ghost use lib.ListN.{length, take, drop};
+ghost use Rattle.io.specs.Counts.{Counts};
+ghost use Rattle.recorder.specs.Recorder.{fed};
+ghost use Rattle.callrun.specs.Callrun.{Advances};
 use libc::STDIN_FILENO;
 use libc::STDOUT_FILENO;
 use recorder::State;
-ghost use Prim.Native.Nat.{_≤_};
-ghost use lib.ListN.{length};
 
-// Where the program stands: `have` bytes are at the front of the buffer and not yet used.
+// Where the program stands: `have` bytes are at the front of the buffer and not yet used, and the last call of the
+// recorder left `written` bytes of lines.
 struct Progress {
     state: State,
     have: usize,
+    written: usize,
     going: bool,
 }
 
@@ -22,44 +29,19 @@ fn write_out(lines: &[u8]) -> bool {
     false
 }
 
-// Calls the recorder on what is there until no whole command is left, and writes the lines.
-fn drain(state: State, buf: &[u8], out: &mut [u8]) -> Progress
-    ensures { λ r. ⌜ r .have ≤ length (now (buf .entry)) ⌝ }
+// Reads once, behind the first `have` bytes.
+fn more(buf: &mut [u8], have: usize) -> isize
+    requires { ⌜ have ≤ length (now buf) ⌝ }
+    ensures { λ r. ⌜ take have (now (buf .exit)) ≡ take have (now (buf .entry)) ⌝ }
 {
-    let mut s = state;
-    let mut at: usize = 0;
-    while at < buf.len() {
-        let r = recorder::feed(s, &buf[at..], out);
-        let written = r.written;
-        let consumed = r.consumed;
-        s = r.state;
-        let is_written = write_out(&out[..written]);
-        at += consumed;
-        if !is_written || r.finished {
-            return Progress {
-                state: s,
-                have: 0,
-                going: false,
-            };
-        }
-        if consumed == 0 {
-            return Progress {
-                state: s,
-                have: buf.len() - at,
-                going: true,
-            };
-        }
-    }
-    Progress {
-        state: s,
-        have: 0,
-        going: true,
-    }
+    let room = &mut buf[have..];
+    libc::read(STDIN_FILENO, room)
 }
 
 // Moves the last `n` of the first `have` bytes to the front.
 fn shift(buf: &mut [u8], have: usize, n: usize)
     requires { ⌜ (n ≤ have) × (have ≤ length (now buf)) ⌝ }
+    ensures { λ r. ⌜ take n (now (buf .exit)) ≡ take n (drop (have - n) (now (buf .entry))) ⌝ }
 {
     let from = have - n;
     let mut i: usize = 0;
@@ -70,50 +52,85 @@ fn shift(buf: &mut [u8], have: usize, n: usize)
     }
 }
 
-// Reads once, and does what came.
-fn turn(progress: Progress, buf: &mut [u8], out: &mut [u8]) -> Progress {
-    let have = progress.have;
+// Calls the recorder on what is there. Its lines are at the front of `out`, and what it did not use at the front of `buf`.
+fn advance(progress: Progress, buf: &mut [u8], out: &mut [u8]) -> Progress
+    requires { ⌜ progress .have ≤ length (now buf) ⌝ }
+    ensures { λ r. ⌜ Advances (fed (length (now (out .entry))) (progress .state) (take (progress .have) (now (buf .entry)))) (progress .have) (now (buf .entry)) r (now (buf .exit)) (now (out .exit)) ⌝ }
+    ensures { λ r. ⌜ Counts (r .written) (now (out .exit)) ⌝ }
+    ensures { λ r. ⌜ r .have ≤ length (now (buf .exit)) ⌝ }
+{
     let state = progress.state;
-    if buf.len() <= have {
-        return Progress {
-            state,
-            have,
-            going: false,
-        };
+    let have = progress.have;
+    let r = recorder::feed(state, &buf[..have], out);
+    let left = have - r.consumed;
+    shift(buf, have, left);
+    let after = r.state;
+    Progress {
+        state: after,
+        have: left,
+        written: r.written,
+        going: !r.finished,
     }
-    let room = &mut buf[have..];
-    let got = libc::read(STDIN_FILENO, room);
-    if got < 0 {
-        os::fail(b"standard input");
-        return Progress {
-            state,
-            have,
-            going: false,
-        };
+}
+
+fn stopped(state: State) -> Progress
+    ensures { λ r. ⌜ r .have ≡ 0 ⌝ }
+{
+    Progress {
+        state,
+        have: 0,
+        written: 0,
+        going: false,
     }
-    if got == 0 {
-        finish(state, &buf[..have], out);
-        return Progress {
-            state,
-            have,
-            going: false,
-        };
+}
+
+// Performs what is there and writes the lines.
+fn perform(progress: Progress, buf: &mut [u8], out: &mut [u8]) -> Progress
+    requires { ⌜ progress .have ≤ length (now buf) ⌝ }
+    ensures { λ r. ⌜ r .have ≤ length (now (buf .exit)) ⌝ }
+{
+    let r = advance(progress, buf, out);
+    let written = r.written;
+    if write_out(&out[..written]) {
+        return r;
     }
-    let n = io::count(got, &buf[have..]);
-    let all = have + n;
-    let r = drain(state, &buf[..all], out);
-    let left = r.have;
-    shift(buf, all, left);
-    r
+    let after = r.state;
+    stopped(after)
 }
 
 // The end of the input.
 fn finish(state: State, left: &[u8], out: &mut [u8]) {
-    if out.len() < recorder::LINE {
-        return;
-    }
     let n = recorder::close(state, left, out);
     write_out(&out[..n]);
+}
+
+// Performs what is there; once nothing comes of it, reads more.
+fn turn(progress: Progress, buf: &mut [u8], out: &mut [u8]) -> Progress
+    requires { ⌜ progress .have ≤ length (now buf) ⌝ }
+    ensures { λ r. ⌜ r .have ≤ length (now (buf .exit)) ⌝ }
+{
+    if progress.written != 0 {
+        return perform(progress, buf, out);
+    }
+    let have = progress.have;
+    let state = progress.state;
+    let got = more(buf, have);
+    if got < 0 {
+        os::fail(b"standard input");
+        return stopped(state);
+    }
+    if got == 0 {
+        finish(state, &buf[..have], out);
+        return stopped(state);
+    }
+    let n = io::count(got, &buf[have..]);
+    let all = Progress {
+        state,
+        have: have + n,
+        written: 0,
+        going: true,
+    };
+    perform(all, buf, out)
 }
 
 // A proved loop has to end, and nothing says that the input does: it counts down from a number that no run uses up.
@@ -121,6 +138,7 @@ fn run(buf: &mut [u8], out: &mut [u8]) {
     let mut progress = Progress {
         state: recorder::fresh(),
         have: 0,
+        written: 0,
         going: true,
     };
     let mut turns = u64::MAX;

@@ -1,12 +1,13 @@
 use Prim.Native.Nat.{_+_, _-_, _≤_}
-use mathlib.Core.Path.{_≡_, refl}
+use mathlib.Core.Path.{_≡_, refl, _∙_}
 use native.Mathlib.Omega.{arith}
 use lib.ListN.{length, length-set}
+use Rattle.callrun.proofs.Shifting.{Moved, moves-none, moves-one}
 use Rattle.callrun.proofs.shift.Statement.{statement}
 use Rattle.callrun.proofs.shift.Tie as tie
 
 abbrev Inv-loop : tie.InvT-loop
-Inv-loop buf₀ have n from i₀ buf i = (i ≤ n) × (length buf ≡ length buf₀)
+Inv-loop buf₀ have n from i₀ buf i = (i ≤ n) × Moved buf₀ buf from i
 
 abbrev μ-loop : tie.MeasureT-loop
 μ-loop buf₀ have n from i₀ buf i = n - i
@@ -18,12 +19,17 @@ shift-spec =
     Inv-loop
     μ-loop
     (λ c. omega arith)
-    (λ c. (omega arith, refl))
+    (λ c. (omega arith, moves-none _ _))
     (λ c. omega arith)
     (λ c. omega arith)
     (λ c. omega arith)
     (λ c. omega arith)
     (λ c. omega arith)
-    (λ c. (omega arith, simp length-set (omega arith)))
-    (λ c. c .before .loop .inv .1)
-    (λ c. tt))
+    (λ c.
+    let l = c .before .before in
+    (omega arith, moves-one _ _ _ _ (l .loop .inv .1) (omega (arith, l .loop .inv .1 .same))))
+    (λ c. c .before .loop .inv .1 .same)
+    (λ c.
+    let l = c .before in
+    let e : l .loop .i ≡ l .before .args .n = omega arith in
+    rw e at (l .loop .inv .1 .front)))
