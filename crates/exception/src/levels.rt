@@ -1,6 +1,6 @@
 // levels.rt: the routes by type number, and the level and the owner of a place.
 ghost use mathlib.Core.Path.{_≡_};
-ghost use Rattle.model.specs.Exception.{routeOf, processOf, ownerOf, levelAt, passOver};
+ghost use Rattle.model.specs.Exception.{routeOf, isNoType, processOf, ownerOf, levelAt, passOver};
 ghost use Rattle.record_exception.specs.declared.Place as Place;
 use model::Route;
 use record_exception::Level;
@@ -24,6 +24,19 @@ pub fn route_of(kind: u16) -> Route
         0x8008 => Route::DebuggerOnly,
         0x8108 => Route::ToExiting,
         _ => Route::NoType,
+    }
+}
+
+// Not one of the eleven types.
+pub fn is_no_type(route: Route) -> bool
+    ensures { λ r. ⌜ r ≡ isNoType route ⌝ }
+{
+    match route {
+        Route::Ordinary => false,
+        Route::JobDebuggers => false,
+        Route::DebuggerOnly => false,
+        Route::ToExiting => false,
+        Route::NoType => true,
     }
 }
 

@@ -2,18 +2,15 @@
 // what its definition in model/specs/ExceptionCalls.antt comes to.
 ghost use mathlib.Core.Path.{_≡_};
 ghost use Rattle.model.specs.ExceptionCalls.{badLevel, bindLevel, hangUpLevel, raiseException};
-ghost use Rattle.model.specs.ExceptionCalls.{closeException, setState, hasStrategy, setStrategy};
+ghost use Rattle.model.specs.ExceptionCalls.{closeException, setState, setStrategy};
 ghost use Rattle.model.specs.ExceptionCalls.{getProcessHandle};
-ghost use Rattle.model.specs.Exception.{isNoType};
 use error::Refusal;
 use error::ZxError;
+use exception::levels::is_no_type;
 use exception::levels::route_of;
-use model::Route;
 use owners::FoundLevel;
-use record_exception::Exception;
 use record_exception::Level;
 use record_thread::FoundException;
-use record_thread::Waiting;
 use records::reply::Reply;
 use records::tables::FoundThread;
 use records::tables::Tables;
@@ -69,18 +66,6 @@ pub fn hang_up(t: Tables, level: u8, owner: u8) -> Reply
     Reply::answered(owners::with_level(t, level, owner, Level::HungUp), 0)
 }
 
-fn is_no_type(route: Route) -> bool
-    ensures { λ r. ⌜ r ≡ isNoType route ⌝ }
-{
-    match route {
-        Route::Ordinary => false,
-        Route::JobDebuggers => false,
-        Route::DebuggerOnly => false,
-        Route::ToExiting => false,
-        Route::NoType => true,
-    }
-}
-
 // 14: `CurrentThread::handle_exception`.
 pub fn handle_exception(t: Tables, thread: u8, kind: u16) -> Reply
     ensures { λ r. ⌜ r ≡ raiseException t thread kind ⌝ }
@@ -120,73 +105,22 @@ pub fn close(t: Tables, thread: u8) -> Reply
 pub fn set_state(t: Tables, thread: u8, state: u32) -> Reply
     ensures { λ r. ⌜ r ≡ setState t thread state ⌝ }
 {
-    if 128 <= thread {
-        return Reply::answered(t, Refusal::PAST_TABLE);
-    }
-    let FoundThread::OldThread(v) = t.thread(thread) else {
-        return Reply::answered(t, Refusal::NOT_MADE);
-    };
-    let FoundException::Held(e) = v.exception() else {
-        return Reply::answered(t, Refusal::OUT_OF_TURN);
-    };
-    if 1 < state {
-        return Reply::answered(t, ZxError::INVALID_ARGS);
-    }
-    let w = v.waits(v.state, Waiting::InException(e.with_handled(state == 1)));
-    Reply::answered(t.with_thread(thread, w), 0)
-}
-
-// Levels 1 and 5; ThreadExiting has no current level.
-fn has_strategy(e: Exception) -> bool
-    ensures { λ r. ⌜ r ≡ hasStrategy e ⌝ }
-{
-    let place = e.place;
-    let level = place.current();
-    if level == 1 {
-        return true;
-    }
-    level == 5
+    let v = t.thread_at(thread_move::slot(thread));
+    thread_move::moved(t, thread, on_exception::set_state(thread, v, state))
 }
 
 // 17: `ExceptionObject::set_strategy`.
 pub fn set_strategy(t: Tables, thread: u8, strategy: u32) -> Reply
     ensures { λ r. ⌜ r ≡ setStrategy t thread strategy ⌝ }
 {
-    if 128 <= thread {
-        return Reply::answered(t, Refusal::PAST_TABLE);
-    }
-    let FoundThread::OldThread(v) = t.thread(thread) else {
-        return Reply::answered(t, Refusal::NOT_MADE);
-    };
-    let FoundException::Held(e) = v.exception() else {
-        return Reply::answered(t, Refusal::OUT_OF_TURN);
-    };
-    if 1 < strategy {
-        return Reply::answered(t, ZxError::INVALID_ARGS);
-    }
-    if !has_strategy(e) {
-        return Reply::answered(t, ZxError::BAD_STATE);
-    }
-    let w = v.waits(v.state, Waiting::InException(e.with_second(strategy == 1)));
-    Reply::answered(t.with_thread(thread, w), 0)
+    let v = t.thread_at(thread_move::slot(thread));
+    thread_move::moved(t, thread, on_exception::set_strategy(thread, v, strategy))
 }
 
 // 18: `ExceptionObject::get_process_handle`.
 pub fn get_process_handle(t: Tables, thread: u8) -> Reply
     ensures { λ r. ⌜ r ≡ getProcessHandle t thread ⌝ }
 {
-    if 128 <= thread {
-        return Reply::answered(t, Refusal::PAST_TABLE);
-    }
-    let FoundThread::OldThread(v) = t.thread(thread) else {
-        return Reply::answered(t, Refusal::NOT_MADE);
-    };
-    let FoundException::Held(e) = v.exception() else {
-        return Reply::answered(t, Refusal::OUT_OF_TURN);
-    };
-    let place = e.place;
-    if place.current() == 2 {
-        return Reply::answered(t, ZxError::ACCESS_DENIED);
-    }
-    Reply::answered(t, 0)
+    let v = t.thread_at(thread_move::slot(thread));
+    thread_move::moved(t, thread, on_exception::get_process_handle(thread, v))
 }

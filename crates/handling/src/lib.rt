@@ -1,9 +1,9 @@
 // handling: what becomes of a thread that raises an exception, and of one whose handler closes it. Follows `handle` of
 // exception.rs and `handle_exception` of thread.rs.
 ghost use mathlib.Core.Path.{_≡_};
-ghost use Rattle.handling.specs.Handling.{answerOf, isOver};
+ghost use Rattle.handling.specs.Handling.{answerOf};
 ghost use Rattle.model.specs.Exception.{overTables, outcome, unhandled, delivered, raiseExiting};
-ghost use Rattle.model.specs.Exception.{overAtFirst, raise, close};
+ghost use Rattle.model.specs.Exception.{raise, close};
 use error::ZxError;
 use exception::levels::level_at;
 use exception::levels::owner_of;
@@ -14,6 +14,7 @@ use exception::search::first_handler;
 use exception::search::next_handler;
 use model::Handler;
 use model::Search;
+use on_raise::is_over;
 use record_exception::Exception;
 use record_exception::ExceptionType;
 use record_exception::Place;
@@ -117,32 +118,6 @@ pub fn raise(t: Tables, thread: u8, kind: u16) -> Reply
         kind,
         false,
     )
-}
-
-// ProcessStarting and ThreadExiting are over at their first closing.
-fn over_at_first(place: Place) -> bool
-    ensures { λ r. ⌜ r ≡ overAtFirst place ⌝ }
-{
-    match place {
-        Place::Debugger => false,
-        Place::OwnThread => false,
-        Place::OwnProcess => false,
-        Place::SecondChance => false,
-        Place::OfJob(_) => false,
-        Place::OfJobDebugger(_) => true,
-        Place::Exiting => true,
-    }
-}
-
-// Whether a closing ends the exception.
-fn is_over(e: Exception) -> bool
-    ensures { λ r. ⌜ r ≡ isOver e ⌝ }
-{
-    if e.handled {
-        return true;
-    }
-    let place = e.place;
-    over_at_first(place)
 }
 
 // A handler closes its exception.

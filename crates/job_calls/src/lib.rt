@@ -2,7 +2,7 @@
 // refusals in its order, and else what its definition in model/specs/JobCalls.antt comes to.
 ghost use mathlib.Core.Path.{_≡_};
 ghost use Rattle.model.specs.JobCalls.{withChild, createChild, killJobCall};
-ghost use Rattle.model.specs.JobCalls.{setPolicyTimerSlack, jobInfo, jobInformation};
+ghost use Rattle.model.specs.JobCalls.{setPolicyTimerSlack, jobInformation};
 use error::Refusal;
 use error::ZxError;
 use job::kill_job;
@@ -10,7 +10,6 @@ use job_lists::job_empty;
 use job_lists::policy_of;
 use job_policy::TimerSlackPolicy;
 use record_job::Job;
-use records::reply::Fields;
 use records::reply::Reply;
 use records::tables::FoundJob;
 use records::tables::Tables;
@@ -63,53 +62,22 @@ pub fn kill(t: Tables, job: u8) -> Reply
 pub fn set_policy_timer_slack(t: Tables, job: u8, policy: TimerSlackPolicy) -> Reply
     ensures { λ r. ⌜ r ≡ setPolicyTimerSlack t job policy ⌝ }
 {
-    if 2 < policy.mode {
-        return Reply::answered(t, Refusal::BAD_FIELD);
-    }
-    if 32 <= job {
-        return Reply::answered(t, Refusal::PAST_TABLE);
-    }
-    let FoundJob::OldJob(v) = t.job(job) else {
-        return Reply::answered(t, Refusal::NOT_MADE);
-    };
-    if !job_empty(t, job) {
-        return Reply::answered(t, ZxError::BAD_STATE);
-    }
-    if policy.slack < 0 {
-        return Reply::answered(t, ZxError::INVALID_ARGS);
-    }
-    let old = v.slack;
-    Reply::answered(t.with_job(job, v.with_slack(old.generate_new(policy))), 0)
-}
-
-// Killed, terminated, slack amount, mode; the policy beside.
-fn job_info(t: Tables, job: u8, v: Job) -> Reply
-    ensures { λ r. ⌜ r ≡ jobInfo t job v ⌝ }
-{
-    let slack = v.slack;
-    let fields = Fields::JobFields {
-        killed: v.killed,
-        terminated: v.terminated,
-        amount: slack.amount,
-        mode: slack.mode,
-    };
-    Reply {
-        answer: 0,
-        fields: fields,
-        policy: policy_of(t, job),
-        tables: t,
-    }
+    let j = t.job_at(job_move::slot(job));
+    let empty = job_empty(t, job);
+    job_move::moved(
+        t,
+        job,
+        on_job::set_policy_timer_slack(job, j, empty, policy),
+    )
 }
 
 // 1b: job information.
 pub fn get_info(t: Tables, job: u8) -> Reply
     ensures { λ r. ⌜ r ≡ jobInformation t job ⌝ }
 {
-    if 32 <= job {
-        return Reply::answered(t, Refusal::PAST_TABLE);
-    }
-    let FoundJob::OldJob(v) = t.job(job) else {
-        return Reply::answered(t, Refusal::NOT_MADE);
-    };
-    job_info(t, job, v)
+    let slot = job_move::slot(job);
+    let j = t.job_at(slot);
+    let own = t.own_at(slot);
+    let inherited = t.inherited_at(slot);
+    job_move::moved(t, job, on_job::get_info(job, j, own, inherited))
 }

@@ -1,10 +1,9 @@
 // process_calls: making, starting, ending, binding and showing a process, and its policy. Follows process.rs. Each
 // call answers document 01's refusals in its order, and else what its definition in model/specs/JobCalls.antt comes to.
 ghost use mathlib.Core.Path.{_≡_};
-ghost use Rattle.model.specs.JobCalls.{withNewProcess, createProcess, withStarted, startProcess};
+ghost use Rattle.model.specs.JobCalls.{withNewProcess, createProcess, startProcess};
 ghost use Rattle.model.specs.JobCalls.{exitProcessCall, killProcess, setCriticalAtJob, checkPolicy};
-ghost use Rattle.model.specs.JobCalls.{processInfo, processInformation};
-ghost use Rattle.model.specs.JobPolicy.{panicsAt, isDenied};
+ghost use Rattle.model.specs.JobCalls.{processInformation};
 ghost use Rattle.model.specs.ThreadCalls.{finishThreadCall};
 use error::Refusal;
 use error::ZxError;
@@ -12,12 +11,7 @@ use job::exit_process;
 use job::finish_thread;
 use job_lists::at_or_above;
 use job_lists::policy_of;
-use job_policy::ActionFound;
-use job_policy::PolicyAction;
 use record_process::Process;
-use record_process::Status;
-use record_thread::Thread;
-use records::reply::Fields;
 use records::reply::Reply;
 use records::tables::FoundJob;
 use records::tables::FoundProcess;
@@ -55,40 +49,13 @@ pub fn create_with_ext(t: Tables, job: u8, new: u8) -> Reply
     Reply::answered(with_new_process(t, job, new), 0)
 }
 
-fn with_started(t: Tables, process: u8, thread: u8, q: Process, v: Thread) -> Tables
-    ensures { λ r. ⌜ r ≡ withStarted t process thread q v ⌝ }
-{
-    let running = t.with_process(process, q.with_status(Status::Running));
-    running.with_thread(thread, v.start())
-}
-
 // 04: `Process::start`.
 pub fn start(t: Tables, process: u8, thread: u8) -> Reply
     ensures { λ r. ⌜ r ≡ startProcess t process thread ⌝ }
 {
-    if 64 <= process {
-        return Reply::answered(t, Refusal::PAST_TABLE);
-    }
-    if 128 <= thread {
-        return Reply::answered(t, Refusal::PAST_TABLE);
-    }
-    let FoundProcess::OldProcess(q) = t.process(process) else {
-        return Reply::answered(t, Refusal::NOT_MADE);
-    };
-    let FoundThread::OldThread(v) = t.thread(thread) else {
-        return Reply::answered(t, Refusal::NOT_MADE);
-    };
-    if v.started {
-        return Reply::answered(t, Refusal::OUT_OF_TURN);
-    }
-    if !v.thread_of(process) {
-        return Reply::answered(t, ZxError::ACCESS_DENIED);
-    }
-    let status = q.status;
-    if !status.is_init() {
-        return Reply::answered(t, ZxError::BAD_STATE);
-    }
-    Reply::answered(with_started(t, process, thread, q, v), 0)
+    let q = t.process_at(process_move::slot(process));
+    let v = t.thread_at(thread % 128);
+    on_pair::both_moved(t, process, thread, on_pair::start(process, thread, q, v))
 }
 
 // 05: `Process::exit`.
@@ -162,79 +129,24 @@ pub fn finish(t: Tables, thread: u8) -> Reply
     Reply::answered(finish_thread(t, thread), 0)
 }
 
-// The Rust has no answer for the actions 2 to 4.
-fn panics_at(found: ActionFound) -> bool
-    ensures { λ r. ⌜ r ≡ panicsAt found ⌝ }
-{
-    match found {
-        ActionFound::Unset => false,
-        ActionFound::Action(action) => {
-            if action == PolicyAction::ALLOW {
-                return false;
-            }
-            action != PolicyAction::DENY
-        }
-    }
-}
-
-fn is_denied(found: ActionFound) -> bool
-    ensures { λ r. ⌜ r ≡ isDenied found ⌝ }
-{
-    match found {
-        ActionFound::Unset => false,
-        ActionFound::Action(action) => action == PolicyAction::DENY,
-    }
-}
-
 // 11: `Process::check_policy`.
 pub fn check_policy(t: Tables, process: u8, condition: u8) -> Reply
     ensures { λ r. ⌜ r ≡ checkPolicy t process condition ⌝ }
 {
-    if 15 <= condition {
-        return Reply::answered(t, Refusal::BAD_FIELD);
-    }
-    if 64 <= process {
-        return Reply::answered(t, Refusal::PAST_TABLE);
-    }
-    let FoundProcess::OldProcess(q) = t.process(process) else {
-        return Reply::answered(t, Refusal::NOT_MADE);
-    };
-    let fixed = t.fixed_at(process);
-    let found = fixed.get_action(condition);
-    if panics_at(found) {
-        return Reply::answered(t, Refusal::PANICS);
-    }
-    if is_denied(found) {
-        return Reply::answered(t, ZxError::ACCESS_DENIED);
-    }
-    Reply::answered(t, 0)
-}
-
-// Code, started, exited, debugger open, terminated.
-fn process_info(t: Tables, q: Process) -> Reply
-    ensures { λ r. ⌜ r ≡ processInfo t q ⌝ }
-{
-    let status = q.status;
-    let level1 = q.level1;
-    let fields = Fields::ProcessFields {
-        code: status.code(),
-        started: !status.is_init(),
-        exited: status.is_exited(),
-        debugger: level1.is_bound(),
-        terminated: q.terminated,
-    };
-    Reply::with_fields(t, 0, fields)
+    let slot = process_move::slot(process);
+    let q = t.process_at(slot);
+    let fixed = t.fixed_at(slot);
+    process_move::moved(
+        t,
+        process,
+        on_process::check_policy(process, condition, q, fixed),
+    )
 }
 
 // 1c: process information.
 pub fn get_info(t: Tables, process: u8) -> Reply
     ensures { λ r. ⌜ r ≡ processInformation t process ⌝ }
 {
-    if 64 <= process {
-        return Reply::answered(t, Refusal::PAST_TABLE);
-    }
-    let FoundProcess::OldProcess(q) = t.process(process) else {
-        return Reply::answered(t, Refusal::NOT_MADE);
-    };
-    process_info(t, q)
+    let q = t.process_at(process_move::slot(process));
+    process_move::moved(t, process, on_process::get_info(process, q))
 }

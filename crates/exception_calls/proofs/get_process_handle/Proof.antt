@@ -1,33 +1,16 @@
-use mathlib.Core.Path.{sym, _∙_}
-use Rattle.model.specs.ExceptionCalls.{getProcessHandle}
-use Rattle.model.proofs.Answering.{answering}
+use Rattle.thread_move.proofs.Moving.{whole}
 use borrow.Author.Needs.{needs}
 use Rattle.exception_calls.proofs.get_process_handle.Statement.{statement}
 use Rattle.exception_calls.proofs.get_process_handle.Tie as tie
 
 pub get-process-handle-spec : {M : Type 1} → statement M
-unfolding getProcessHandle
 get-process-handle-spec =
     tie.close
     (tie.spec
     (λ c κs. search needs)
-    (λ c. search answering depth 20)
     (λ c κs. search needs)
-    (λ c. search needs)
-    (λ c. search needs)
-    (λ c κs. search needs)
-    (λ c. search answering depth 20)
-    (λ c κs. search needs)
-    (λ c. search needs)
-    (λ c. search needs)
-    (λ c κs. search needs)
-    (λ c. search answering depth 20)
     (λ c κs. search needs)
     (λ c κs. search needs)
     (λ c.
-    let e = sym (c .before .before .current .ensures) ∙ c .before .if2 .taken in
-    search (answering, e) depth 20)
-    (λ c κs. search needs)
-    (λ c.
-    let e = simp (c .before .before .current .ensures) at (c .before .if2 .left) in
-    search (answering, e) depth 20))
+    whole _ _ _ _ (c .moved .ensures) (c .before .get-process-handle .ensures)
+    (c .before .before .thread-at .ensures) (c .before .before .before .slot .ensures)))

@@ -1,0 +1,110 @@
+// on_raise: the calls that a thread's record alone may not decide: a thread ends, raises an exception, has it closed.
+// Each answers document 01's refusals in its order; thread_move/specs/ThreadMove.antt says what open means.
+ghost use mathlib.Core.Path.{_≡_};
+ghost use Rattle.model.specs.ThreadCalls.{finishThreadCall};
+ghost use Rattle.model.specs.ExceptionCalls.{raiseException, closeException};
+ghost use Rattle.model.specs.Exception.{overAtFirst};
+ghost use Rattle.thread_move.specs.ThreadMove.{Settles};
+ghost use Rattle.on_raise.specs.OnRaise.{isOver};
+use error::Refusal;
+use error::ZxError;
+use exception::levels::is_no_type;
+use exception::levels::route_of;
+use record_exception::Exception;
+use record_exception::ExceptionType;
+use record_exception::Place;
+use record_thread::FoundException;
+use record_thread::Thread;
+use record_thread::ThreadState;
+use records::tables::FoundThread;
+use thread_move::Early;
+use thread_move::decided;
+use thread_move::ended;
+use thread_move::found;
+use thread_move::undecided;
+
+// 0c: `CurrentThread` dropped. Open where it is not refused: the process may exit.
+pub fn finish(thread: u8, v: Thread) -> Early
+    ensures { λ r. ⌜ Settles (λ t. finishThreadCall t thread) thread v r ⌝ }
+{
+    if 128 <= thread {
+        return decided(v, Refusal::PAST_TABLE);
+    }
+    let FoundThread::OldThread(w) = found(v) else {
+        return decided(v, Refusal::NOT_MADE);
+    };
+    if !w.is_free() {
+        return decided(v, Refusal::OUT_OF_TURN);
+    }
+    undecided(v)
+}
+
+// 14: `CurrentThread::handle_exception`. While Dying types but ThreadExiting deliver nothing.
+pub fn handle_exception(thread: u8, v: Thread, kind: u16) -> Early
+    ensures { λ r. ⌜ Settles (λ t. raiseException t thread kind) thread v r ⌝ }
+{
+    if is_no_type(route_of(kind)) {
+        return decided(v, Refusal::BAD_FIELD);
+    }
+    if 128 <= thread {
+        return decided(v, Refusal::PAST_TABLE);
+    }
+    let FoundThread::OldThread(w) = found(v) else {
+        return decided(v, Refusal::NOT_MADE);
+    };
+    if !w.is_free() {
+        return decided(v, Refusal::OUT_OF_TURN);
+    }
+    if kind == ExceptionType::THREAD_EXITING {
+        return undecided(v);
+    }
+    if v.state == ThreadState::DYING {
+        return ended(v, ZxError::STOP);
+    }
+    undecided(v)
+}
+
+// ProcessStarting and ThreadExiting are over at their first closing.
+fn over_at_first(place: Place) -> bool
+    ensures { λ r. ⌜ r ≡ overAtFirst place ⌝ }
+{
+    match place {
+        Place::Debugger => false,
+        Place::OwnThread => false,
+        Place::OwnProcess => false,
+        Place::SecondChance => false,
+        Place::OfJob(_) => false,
+        Place::OfJobDebugger(_) => true,
+        Place::Exiting => true,
+    }
+}
+
+// Whether a closing ends the exception.
+pub fn is_over(e: Exception) -> bool
+    ensures { λ r. ⌜ r ≡ isOver e ⌝ }
+{
+    if e.handled {
+        return true;
+    }
+    let place = e.place;
+    over_at_first(place)
+}
+
+// 15: the handler lets the exception object go. Open where a next handler is tried.
+pub fn close(thread: u8, v: Thread) -> Early
+    ensures { λ r. ⌜ Settles (λ t. closeException t thread) thread v r ⌝ }
+{
+    if 128 <= thread {
+        return decided(v, Refusal::PAST_TABLE);
+    }
+    let FoundThread::OldThread(w) = found(v) else {
+        return decided(v, Refusal::NOT_MADE);
+    };
+    let FoundException::Held(e) = w.exception() else {
+        return decided(v, Refusal::OUT_OF_TURN);
+    };
+    if is_over(e) {
+        return ended(v.end_wait(), 0);
+    }
+    undecided(v)
+}

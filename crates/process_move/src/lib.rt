@@ -1,0 +1,78 @@
+// process_move: what a call on one process comes to over the records that it names alone, a move, and the reply that the
+// move stands for. specs/ProcessMove.antt says when a move is what the call comes to.
+ghost use mathlib.Core.Path.{_≡_};
+ghost use Rattle.process_move.specs.ProcessMove.{slot, move, foundIn, moved, settled, undecided};
+use record_process::Process;
+use records::reply::Fields;
+use records::reply::Reply;
+use records::tables::FoundProcess;
+use records::tables::Tables;
+
+// What a call comes to: its answer and fields, and the process after it.
+pub struct Move {
+    pub answer: i64,
+    pub fields: Fields,
+    pub process: Process,
+}
+
+// The same, or open: the records do not decide the call.
+pub struct Early {
+    pub is_open: bool,
+    pub done: Move,
+}
+
+// An answer with no field.
+pub fn answered(q: Process, answer: i64) -> Move
+    ensures { λ r. ⌜ r ≡ move q answer ⌝ }
+{
+    Move {
+        answer: answer,
+        fields: Fields::NoFields,
+        process: q,
+    }
+}
+
+// A made process.
+pub fn found(q: Process) -> FoundProcess
+    ensures { λ r. ⌜ r ≡ foundIn q ⌝ }
+{
+    if q.made {
+        return FoundProcess::OldProcess(q);
+    }
+    FoundProcess::NoProcess
+}
+
+// Where a name is looked up.
+pub fn slot(process: u8) -> u8
+    ensures { λ r. ⌜ r ≡ slot process ⌝ }
+{
+    process % 64
+}
+
+// The reply that a move stands for.
+pub fn moved(t: Tables, process: u8, m: Move) -> Reply
+    ensures { λ r. ⌜ r ≡ moved t process m ⌝ }
+{
+    let fields = m.fields;
+    Reply::with_fields(t.with_process(slot(process), m.process), m.answer, fields)
+}
+
+// Decided: an answer, and the process stays.
+pub fn decided(q: Process, answer: i64) -> Early
+    ensures { λ r. ⌜ r ≡ settled q answer ⌝ }
+{
+    Early {
+        is_open: false,
+        done: answered(q, answer),
+    }
+}
+
+// Not decided: what is done means nothing.
+pub fn left_open(q: Process) -> Early
+    ensures { λ r. ⌜ r ≡ undecided q ⌝ }
+{
+    Early {
+        is_open: true,
+        done: answered(q, 0),
+    }
+}

@@ -1,0 +1,13 @@
+use Rattle.thread_move.specs.ThreadMove.{foundIn}
+use Rattle.laws.proofs.Flow.{branches}
+use borrow.Author.Needs.{needs}
+use Rattle.thread_move.proofs.found.Statement.{statement}
+use Rattle.thread_move.proofs.found.Tie as tie
+
+pub found-spec : {M : Type 1} → statement M
+unfolding foundIn
+found-spec =
+    tie.close
+    (tie.spec
+    (λ c. search branches)
+    (λ c. search branches))

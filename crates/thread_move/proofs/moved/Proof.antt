@@ -1,0 +1,20 @@
+use mir.Syntax.{w64}
+use mir.Val.{SFits}
+use mir.Facts.{toZ-ofZ}
+use Rattle.thread_move.specs.ThreadMove.{moved}
+use borrow.Author.Needs.{needs}
+use Rattle.thread_move.proofs.moved.Statement.{statement}
+use Rattle.thread_move.proofs.moved.Tie as tie
+
+pub moved-spec : {M : Type 1} → statement M
+unfolding moved
+moved-spec =
+    tie.close
+    (tie.spec
+    (λ c κs. search needs)
+    (λ c κs. search needs)
+    (λ c κs. search needs)
+    (λ c.
+    let f : SFits w64 (c .before .before .before .before .before .args .m .answer) = search needs in
+    let e = simp (toZ-ofZ {w = w64} f) at (c .with-fields .ensures) in
+    simp (e, c .before .before .with-thread .ensures, c .before .before .before .slot .ensures)))
