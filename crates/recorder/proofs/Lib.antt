@@ -1,5 +1,6 @@
 -- What the proofs of the recorder cite.
 pub mod Parts
+pub mod Storing
 pub mod Feeding
 pub mod Answered
 pub mod Whole

@@ -84,13 +84,39 @@ pub fn feed(state: State, input: &[u8], out: &mut [u8]) -> Fed
                 return fed_at(t, number, at, written, true);
             }
             Next::Whole(n) => {
-                let r = calls::perform(t, &rest[..n]);
-                let fields = r.fields;
-                let policy = r.policy;
+                let command = &rest[..n];
+                let slots = deciding::slots_of(command);
+                let i = slots.thread;
+                let p = slots.process;
+                let j = slots.job;
+                let d = deciding::decide(
+                    command,
+                    t.threads[i],
+                    t.processes[p],
+                    t.jobs[j],
+                    t.own[j],
+                    t.inherited[j],
+                    t.fixed[p],
+                );
                 number = next_number(number);
-                written = lines::put_line(out, written, number, r.answer, fields, policy);
-                t = r.tables;
                 at += n;
+                if d.decided {
+                    let fields = d.fields;
+                    let policy = d.policy;
+                    written = lines::put_line(out, written, number, d.answer, fields, policy);
+                    let thread = d.thread;
+                    let process = d.process;
+                    let job = d.job;
+                    t.threads[i] = thread;
+                    t.processes[p] = process;
+                    t.jobs[j] = job;
+                } else {
+                    let r = calls::perform(t, command);
+                    let fields = r.fields;
+                    let policy = r.policy;
+                    written = lines::put_line(out, written, number, r.answer, fields, policy);
+                    t = r.tables;
+                }
             }
         }
     }

@@ -2,7 +2,7 @@
 -- is the whole (proofs/Feeding.antt). The measure is what is left of the input.
 use Prim.Native.Nat.{ℕ, _+_, _-_, _≤_, _<_}
 use native.Mathlib.Nat.{sub-zero}
-use mathlib.Core.Path.{_≡_, refl, sym, _∙_}
+use mathlib.Core.Path.{_≡_, refl, sym, ap, _∙_}
 use native.Mathlib.Omega.{arith}
 use mathlib.Core.List.{List}
 use lib.ListN.{length, take, drop, length-take, length-drop}
@@ -13,15 +13,20 @@ use mir.Val.{SFits}
 use mir.Facts.{toZ-ofZ}
 use Rattle.recorder.specs.declared.State.{State}
 use Rattle.recorder.specs.Recorder.{stateOf, fed, ahead}
+use Rattle.laws.proofs.Loops.{length-mapped}
+use Rattle.deciding.specs.declared.Slots.{Slots}
+use Rattle.deciding.specs.Deciding.{storedAt}
+use Rattle.records.specs.Tables.{putJob, putProcess, putThread}
+use Rattle.recorder.proofs.Storing.{Sized, holds, holds-there, stored-sized}
 use Rattle.recorder.proofs.Feeding.{begins, full, waits, stops, goes, whole-fits}
 use Rattle.recorder.proofs.feed.Statement.{statement}
 use Rattle.recorder.proofs.feed.Tie as tie
 
 abbrev Inv-loop : tie.InvT-loop
 Inv-loop input out₀ t₀ number₀ at₀ written₀ out t number at written =
-    (at ≤ length input) × ((written ≤ length out) × ((length out ≡ length out₀) ×
+    Sized t × ((at ≤ length input) × ((written ≤ length out) × ((length out ≡ length out₀) ×
     (fed (length out₀) (stateOf t₀ number₀) input
-    ≡ ahead at (take written out) (fed (length out₀ - written) (stateOf t number) (drop at input)))))
+    ≡ ahead at (take written out) (fed (length out₀ - written) (stateOf t number) (drop at input))))))
 
 abbrev μ-loop : tie.MeasureT-loop
 μ-loop input out₀ t₀ number₀ at₀ written₀ out t number at written = length input - at
@@ -40,17 +45,27 @@ abbrev here : tie.At-loop Inv-loop μ-loop → State
 here a = stateOf (a .loop .t) (a .loop .number)
 
 loop-holds : tie.Need-loop-holds Inv-loop μ-loop
-loop-holds c = (omega arith, (omega arith, (refl, rw sub-zero (begins _))))
+loop-holds c = (
+  record {
+    jobs = search length-mapped;
+    own = search length-mapped;
+    inherited = search length-mapped;
+    processes = search length-mapped;
+    fixed = search length-mapped;
+    threads = search length-mapped;
+  },
+  (omega arith, (omega arith, (refl, rw sub-zero (begins _)))),
+)
 
 returns : tie.Need-returns Inv-loop μ-loop
 returns c =
     let l = c .before .before in
-    let b : l .loop .written ≤ length (l .loop .out) = l .loop .inv .1 .0 in
+    let b : l .loop .written ≤ length (l .loop .out) = l .loop .inv .1 .1 .0 in
     rw (c .fed-at .ensures) (
       full (input l) (out₀ l) (l .loop .out) (state l) (here l) (l .loop .at) (l .loop .written)
-          (l .loop .inv)
+          (l .loop .inv .1)
           (c .before .if1 .taken),
-      ((b, sym (length-take-le _ _ b)), l .loop .inv .0),
+      ((b, sym (length-take-le _ _ b)), l .loop .inv .1 .0),
     )
 
 returns-2 : tie.Need-returns-2 Inv-loop μ-loop
@@ -58,12 +73,12 @@ returns-2 c =
     let n = c .before .before .before in
     let e = n .before .before in
     let l = e .before in
-    let b : l .loop .written ≤ length (l .loop .out) = l .loop .inv .1 .0 in
+    let b : l .loop .written ≤ length (l .loop .out) = l .loop .inv .1 .1 .0 in
     rw (c .fed-at2 .ensures) (
       waits (input l) (out₀ l) (l .loop .out) (state l) (here l) (l .loop .at) (l .loop .written)
-          (l .loop .inv)
+          (l .loop .inv .1)
           (e .if1 .left) _ (n .next-of .ensures) (c .before .enum-told .given .1),
-      ((b, sym (length-take-le _ _ b)), l .loop .inv .0),
+      ((b, sym (length-take-le _ _ b)), l .loop .inv .1 .0),
     )
 
 returns-3 : tie.Need-returns-3 Inv-loop μ-loop
@@ -78,9 +93,9 @@ returns-3 c =
     omega (arith, p .put-stop .ensures .1, p .put-stop .kept .0, e .if1 .left) in
     rw (c .fed-at3 .ensures) (
       stops (input l) (out₀ l) (l .loop .out) (state l) (here l) (l .loop .at) (l .loop .written)
-          (l .loop .inv)
+          (l .loop .inv .1)
           (e .if1 .left) _ (n .next-of .ensures) (t .enum-told2 .given .1) put,
-      ((b, sym (length-take-le _ _ b)), l .loop .inv .0),
+      ((b, sym (length-take-le _ _ b)), l .loop .inv .1 .0),
     )
 
 -- past the match, with the command's size: it lies within the input
@@ -92,31 +107,88 @@ fits c =
     let e = n .before .before in
     let l = e .before in
     whole-fits (input l) (out₀ l) (l .loop .out) (state l) (here l) (l .loop .at) (l .loop .written)
-    (l .loop .inv)
+    (l .loop .inv .1)
     (e .if1 .left) _ (n .next-of .ensures) _ (c .n .given .1)
 
-abbrev sized : tie.After-t2 Inv-loop μ-loop → tie.After-n Inv-loop μ-loop
+-- where the command's size is known, from where its decision is numbered
+abbrev sized : tie.After-next-number2 Inv-loop μ-loop → tie.After-n Inv-loop μ-loop
 sized c = c .before .before .before .before .before .before .before .before .before .before .before
 
+abbrev numbered : tie.After-job Inv-loop μ-loop → tie.After-next-number2 Inv-loop μ-loop
+numbered c = c .before .before .before .before .before .before .before .before .before .before
+
+abbrev numbered-2 : tie.After-t2 Inv-loop μ-loop → tie.After-next-number2 Inv-loop μ-loop
+numbered-2 c = c .before .before .before .before .before .before .before .before .before
+
+-- where the slots are known: they are within the tables
+abbrev placed : tie.After-job Inv-loop μ-loop → tie.After-slots-of Inv-loop μ-loop
+placed c = numbered c .before .before .before .before .before .before .before .before
+
+-- decided from the records
 loop-again : tie.Need-loop-again Inv-loop μ-loop
+unfolding storedAt putJob putProcess putThread
 loop-again c =
-    let p = c .before .before .before in
-    let m = p .before .before .before in
-    let f = m .before .before in
-    let k = f .before .before .before in
+    let p = c .before .before .before .before .before in
+    let m = numbered c in
+    let d = m .before in
+    let s = d .before .before .before .before .before .before .before in
+    let k = sized m in
     let n = k .before .before in
     let e = n .before .before in
     let l = e .before in
-    let got : SFits w64 (f .perform .result .answer) = search needs in
+    let got : SFits w64 (d .decide .result .answer) = search (needs, d .decide .ok) in
     let put = simp (m .next-number2 .ensures, toZ-ofZ {w = w64} got) at (p .put-line .ensures .0) in
+    let z = holds-there (holds (l .loop .t) (s .slots-of .result) _ _ _ _ _ _ (l .loop .inv .0) (s .slots-of .ensures .1))
+    (s .slots-of .ensures .0) in
+    let r = ap (λ (y : Slots). storedAt (l .loop .t) y (d .decide .result)) (s .slots-of .ensures .0)
+    ∙ d .decide .ensures (l .loop .t) z (p .before .before .before .before .if2 .taken) in
     let g =
     goes (input l) (out₀ l) (l .loop .out) (state l) (here l) (l .loop .at) (l .loop .written)
-    (l .loop .inv)
-    (e .if1 .left) _ (n .next-of .ensures) _ (k .n .given .1) _ (f .perform .ensures) put in (
-      fits k .1,
+    (l .loop .inv .1)
+    (e .if1 .left) _ (n .next-of .ensures) _ (k .n .given .1) _ r put in (
+      stored-sized (l .loop .t) (s .slots-of .result) (d .decide .result) (l .loop .inv .0),
       (
-        omega (arith, p .put-line .ensures .1, p .put-line .kept .0, e .if1 .left),
-        (p .put-line .kept .0 ∙ l .loop .inv .1 .1 .0, rw (m .next-number2 .ensures) g),
+        fits k .1,
+        (
+          omega (arith, p .put-line .ensures .1, p .put-line .kept .0, e .if1 .left),
+          (p .put-line .kept .0 ∙ l .loop .inv .1 .1 .1 .0, rw (m .next-number2 .ensures) g),
+        ),
+      ),
+    )
+
+-- performed on the tables
+loop-again-2 : tie.Need-loop-again-2 Inv-loop μ-loop
+loop-again-2 c =
+    let p = c .before .before .before in
+    let f = p .before .before .before .before in
+    let m = f .before .before in
+    let k = sized m in
+    let n = k .before .before in
+    let e = n .before .before in
+    let l = e .before in
+    let o = f .perform .ok .1 .1 .1 .1 .1 .0 .1 .1 in
+    let long : Sized (f .perform .result .tables) =
+    record {
+      jobs = search (length-mapped, o .0);
+      own = search (length-mapped, o .1 .0);
+      inherited = search (length-mapped, o .1 .1 .0);
+      processes = search (length-mapped, o .1 .1 .1 .0);
+      fixed = search (length-mapped, o .1 .1 .1 .1 .0);
+      threads = search (length-mapped, o .1 .1 .1 .1 .1 .0);
+    } in
+    let got : SFits w64 (f .perform .result .answer) = search (needs, f .perform .ok) in
+    let put = simp (m .next-number2 .ensures, toZ-ofZ {w = w64} got) at (p .put-line2 .ensures .0) in
+    let g =
+    goes (input l) (out₀ l) (l .loop .out) (state l) (here l) (l .loop .at) (l .loop .written)
+    (l .loop .inv .1)
+    (e .if1 .left) _ (n .next-of .ensures) _ (k .n .given .1) _ (f .perform .ensures) put in (
+      long,
+      (
+        fits k .1,
+        (
+          omega (arith, p .put-line2 .ensures .1, p .put-line2 .kept .0, e .if1 .left),
+          (p .put-line2 .kept .0 ∙ l .loop .inv .1 .1 .1 .0, rw (m .next-number2 .ensures) g),
+        ),
       ),
     )
 
@@ -129,7 +201,7 @@ feed-spec =
     loop-holds
     (λ c. omega arith)
     (λ c κs. tt)
-    (λ c. c .before .before .loop .inv .1 .1 .0)
+    (λ c. c .before .before .loop .inv .1 .1 .1 .0)
     returns
     (λ c. omega arith)
     (λ c. omega arith)
@@ -137,28 +209,47 @@ feed-spec =
     (λ c κs. tt)
     (λ c. search needs)
     (λ c κs. tt)
-    (λ c. c .before .before .before .before .before .before .loop .inv .1 .1 .0)
+    (λ c. c .before .before .before .before .before .before .loop .inv .1 .1 .1 .0)
     returns-2
     (λ c. search needs)
     (λ c κs. tt)
     (λ c κs. omega (arith, c .before .before .before .before .before .before .if1 .left))
     (λ c κs. tt)
     (λ c. c .before .before .before .put-stop .kept .0 ∙ c .before .before .before .before .before
-    .before .before .before .before .before .before .loop .inv .1 .1 .0)
+    .before .before .before .before .before .before .loop .inv .1 .1 .1 .0)
     returns-3
     (λ c. search needs)
     (λ c. simp (length-take, length-drop) (omega (arith, fits (c .before .before) .1)))
     (λ c κs. tt)
+    (λ c. search needs)
+    (λ c. search needs)
+    (λ c. search needs)
+    (λ c. search needs)
+    (λ c. search needs)
+    (λ c. search needs)
+    (λ c. search needs)
+    (λ c. search needs)
+    (λ c. search needs)
+    (λ c. search needs)
+    (λ c. search needs)
+    (λ c. search needs)
     (λ c κs. tt)
-    (λ c κs. omega (
-      arith,
-      c .before .before .before .before .before .before .before .before .before .before
-          .before .if1 .left,
-    ))
+    (λ c κs. tt)
     (λ c. omega (
       arith,
       fits (sized c) .1,
       sized c .before .before .before .before .before .before .before .before .before .good .1 .0 .0,
     ))
-    (λ c. omega (arith, fits (sized c) .0, fits (sized c) .1))
-    loop-again)
+    (λ c κs. omega (arith, sized (c .before .before .before .before) .before .before .before .before .if1 .left))
+    (λ c. omega (arith, placed c .slots-of .ensures .1 .0))
+    (λ c. omega (arith, placed c .slots-of .ensures .1 .0))
+    (λ c. omega (arith, placed c .slots-of .ensures .1 .1 .0))
+    (λ c. omega (arith, placed c .slots-of .ensures .1 .1 .0))
+    (λ c. omega (arith, placed c .slots-of .ensures .1 .1 .1))
+    (λ c. omega (arith, placed c .slots-of .ensures .1 .1 .1))
+    (λ c. omega (arith, fits (sized (numbered c)) .0, fits (sized (numbered c)) .1))
+    loop-again
+    (λ c κs. tt)
+    (λ c κs. omega (arith, sized (c .before .before .before .before .before) .before .before .before .before .if1 .left))
+    (λ c. omega (arith, fits (sized (numbered-2 c)) .0, fits (sized (numbered-2 c)) .1))
+    loop-again-2)

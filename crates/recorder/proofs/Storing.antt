@@ -1,0 +1,54 @@
+-- The records that `feed` reads from its tables are those that a command names. Assumes nothing.
+use Prim.Native.Nat.{ℕ, _<_}
+use mathlib.Core.Path.{_≡_, _∙_, subst}
+use lib.ListN.{length, getD, length-set}
+use Rattle.laws.proofs.Tables.{read-in}
+use Rattle.job_policy.specs.declared.JobPolicy.{JobPolicy}
+use Rattle.record_job.specs.declared.Job.{Job}
+use Rattle.record_process.specs.declared.Process.{Process}
+use Rattle.record_thread.specs.declared.Thread.{Thread}
+use Rattle.records.specs.declared.tables.Tables.{Tables}
+use Rattle.records.specs.Tables.{putJob, putProcess, putThread}
+use Rattle.records.specs.Tables.{jobAt, processAt, threadAt, ownAt, inheritedAt, fixedAt}
+use Rattle.deciding.specs.declared.Slots.{Slots}
+use Rattle.deciding.specs.declared.Decided.{Decided}
+use Rattle.deciding.specs.Deciding.{Named, named, Holds, storing}
+
+-- the tables have their lengths
+pub record Sized (t : Tables) : Type 0 where
+  pub jobs : length (t .jobs) ≡ 32
+  pub own : length (t .own) ≡ 32
+  pub inherited : length (t .inherited) ≡ 32
+  pub processes : length (t .processes) ≡ 64
+  pub fixed : length (t .fixed) ≡ 64
+  pub threads : length (t .threads) ≡ 128
+
+pub holds : (t : Tables) (s : Slots) (v : Thread) (q : Process) (j : Job) (o h f : JobPolicy) → Sized t →
+    (s .thread < 128) × ((s .process < 64) × (s .job < 32)) →
+    Holds t s (named (getD (t .threads) (s .thread) v) (getD (t .processes) (s .process) q) (getD (t .jobs) (s .job) j)
+    (getD (t .own) (s .job) o) (getD (t .inherited) (s .job) h) (getD (t .fixed) (s .process) f))
+unfolding jobAt processAt threadAt ownAt inheritedAt fixedAt
+holds t s v q j o h f z b =
+    record {
+      thread = read-in (t .threads) (s .thread) _ v (z .threads) (b .0);
+      process = read-in (t .processes) (s .process) _ q (z .processes) (b .1 .0);
+      job = read-in (t .jobs) (s .job) _ j (z .jobs) (b .1 .1);
+      own = read-in (t .own) (s .job) _ o (z .own) (b .1 .1);
+      inherited = read-in (t .inherited) (s .job) _ h (z .inherited) (b .1 .1);
+      fixed = read-in (t .fixed) (s .process) _ f (z .fixed) (b .1 .0);
+    }
+
+pub holds-there : {t : Tables} {s z : Slots} {x : Named} → Holds t s x → s ≡ z → Holds t z x
+holds-there {t} {x = x} h e = subst (λ (y : Slots). Holds t y x) e h
+
+pub stored-sized : (t : Tables) (s : Slots) (d : Decided) → Sized t → Sized (storing t s d)
+unfolding putJob putProcess putThread
+stored-sized t s d z =
+    record {
+      jobs = length-set (t .jobs) (s .job) (d .job) ∙ z .jobs;
+      own = z .own;
+      inherited = z .inherited;
+      processes = length-set (t .processes) (s .process) (d .process) ∙ z .processes;
+      fixed = z .fixed;
+      threads = length-set (t .threads) (s .thread) (d .thread) ∙ z .threads;
+    }
