@@ -4,11 +4,7 @@
 ghost use mathlib.Core.Path.{_≡_};
 ghost use Rattle.model.specs.ThreadCalls.{createThread, startThread, killThread, exitThread};
 ghost use Rattle.model.specs.ThreadCalls.{threadInformation};
-use error::Refusal;
-use record_thread::Waiting;
-use records::reply::Fields;
 use records::reply::Reply;
-use records::tables::FoundThread;
 use records::tables::Tables;
 
 // 08: `Thread::create_with_ext`.
