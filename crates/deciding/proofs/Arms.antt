@@ -8,25 +8,19 @@ use mathlib.Core.Path.{_≡_, refl, sym, ap, _∙_}
 use mathlib.Core.Bool.{Bool, true, false, true≢false}
 use mathlib.Core.List.{List}
 use lib.IntN.{ℤ}
-use lib.Seq.{set-getD}
 use borrow.Author.Tests.{lt-ltb}
 use Rattle.laws.specs.Choice.{_or_, _=?_, if_then_else_}
-use Rattle.job_policy.specs.declared.JobPolicy.{JobPolicy}
-use Rattle.record_job.specs.declared.Job.{Job}
-use Rattle.record_job.specs.Job.{noJob}
-use Rattle.record_process.specs.declared.Process.{Process}
-use Rattle.record_process.specs.Process.{noProcess}
-use Rattle.record_thread.specs.declared.Thread.{Thread}
-use Rattle.record_thread.specs.Thread.{noThread}
 use Rattle.records.specs.declared.tables.Tables.{Tables}
 use Rattle.records.specs.declared.reply.Reply.{Reply}
 use Rattle.records.specs.Reply.{reply, answered}
 use Rattle.records.specs.Tables.{jobAt, processAt, threadAt, putJob, putProcess, putThread}
-use Rattle.records.specs.Tables.{withJobs, withProcesses, withThreads}
 use Rattle.commands.specs.Commands.{byte}
 use Rattle.model.specs.ExceptionCalls.{badLevel}
 use Rattle.model.specs.Step.{step}
 use Rattle.calls.specs.Calls.{callBy, callIn}
+use Rattle.thread_move.proofs.Moving as thread-laws
+use Rattle.process_move.proofs.Moving as process-laws
+use Rattle.job_move.proofs.Moving as job-laws
 use Rattle.thread_move.specs.ThreadMove as thread
 use Rattle.thread_move.specs.declared.Move as ThreadMove
 use Rattle.thread_move.specs.declared.Early as ThreadEarly
@@ -45,20 +39,6 @@ use Rattle.deciding.specs.Deciding.{byThread, byProcess, byJob, byBoth}
 use Rattle.deciding.specs.Deciding.{earlyThread, earlyProcess, earlyJob, storedAt}
 use Rattle.deciding.specs.Deciding.{Named, Holds, Stands, Decides}
 
--- ---- Stored back as it was -------------------------------------------------------------------
-
-thread-kept : (t : Tables) (n : ℕ) {v : Thread} → threadAt t n ≡ v → putThread t n v ≡ t
-unfolding threadAt putThread
-thread-kept t n h = rw (← h) (ap (withThreads t) (set-getD (t .threads) n noThread))
-
-process-kept : (t : Tables) (n : ℕ) {q : Process} → processAt t n ≡ q → putProcess t n q ≡ t
-unfolding processAt putProcess
-process-kept t n h = rw (← h) (ap (withProcesses t) (set-getD (t .processes) n noProcess))
-
-job-kept : (t : Tables) (n : ℕ) {j : Job} → jobAt t n ≡ j → putJob t n j ≡ t
-unfolding jobAt putJob
-job-kept t n h = rw (← h) (ap (withJobs t) (set-getD (t .jobs) n noJob))
-
 -- ---- Decided -------------------------------------------------------------------------------
 
 -- f is told of the records in the tables, and comes to what stands in the decision
@@ -69,8 +49,8 @@ unfolding storedAt thread.moved reply processAt jobAt putThread
 about-thread n p k x e h t a y =
     rw (
       e,
-      process-kept (putThread t (n % 128) _) (p % 64) (a .process),
-      job-kept (putThread t (n % 128) _) (k % 32) (a .job),
+      process-laws.kept (putThread t (n % 128) _) (p % 64) (a .process),
+      job-laws.kept (putThread t (n % 128) _) (k % 32) (a .job),
     ) (h t a)
 
 pub about-process : {f : Tables → Reply} {d : Decided} {m : ProcessMove.Move} (n p k : ℕ) (x : Named) →
@@ -80,8 +60,8 @@ unfolding storedAt process.moved reply jobAt putProcess
 about-process n p k x e h t a y =
     rw (
       e,
-      thread-kept t (n % 128) (a .thread),
-      job-kept (putProcess t (p % 64) _) (k % 32) (a .job),
+      thread-laws.kept t (n % 128) (a .thread),
+      job-laws.kept (putProcess t (p % 64) _) (k % 32) (a .job),
     ) (h t a)
 
 pub about-job : {f : Tables → Reply} {d : Decided} {m : JobMove.Move} (n p k : ℕ) (x : Named) →
@@ -89,21 +69,21 @@ pub about-job : {f : Tables → Reply} {d : Decided} {m : JobMove.Move} (n p k :
     ((t : Tables) → Holds t (slotsOf n p k) x → job.moved t k m ≡ f t) → Stands f (slotsOf n p k) x d
 unfolding storedAt job.moved
 about-job n p k x e h t a y =
-    rw (e, thread-kept t (n % 128) (a .thread), process-kept t (p % 64) (a .process)) (h t a)
+    rw (e, thread-laws.kept t (n % 128) (a .thread), process-laws.kept t (p % 64) (a .process)) (h t a)
 
 pub about-both : {f : Tables → Reply} {d : Decided} {m : ProcessBoth.Both} (n p k : ℕ) (x : Named) →
     d ≡ byBoth m (x .job) →
     ((t : Tables) → Holds t (slotsOf n p k) x → pair.bothMoved t p n m ≡ f t) → Stands f (slotsOf n p k) x d
 unfolding storedAt pair.bothMoved answered jobAt putThread putProcess
 about-both n p k x e h t a y =
-    rw (e, job-kept (putProcess (putThread t (n % 128) _) (p % 64) _) (k % 32) (a .job)) (h t a)
+    rw (e, job-laws.kept (putProcess (putThread t (n % 128) _) (p % 64) _) (k % 32) (a .job)) (h t a)
 
 -- refused: the tables stay
 pub refused-stays : {d : Decided} (t : Tables) (s : Slots) {x : Named} (c : ℤ) →
     d ≡ refused (x .thread) (x .process) (x .job) c → Holds t s x → storedAt t s d ≡ answered t c
 unfolding storedAt answered
 refused-stays t s c e a =
-    rw (e, thread-kept t (s .thread) (a .thread), process-kept t (s .process) (a .process), job-kept t (s .job) (a .job))
+    rw (e, thread-laws.kept t (s .thread) (a .thread), process-laws.kept t (s .process) (a .process), job-laws.kept t (s .job) (a .job))
 
 either : (a : Bool) {b : Bool} → b ≡ true → (a or b) ≡ true
 unfolding _or_

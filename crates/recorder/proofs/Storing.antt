@@ -10,18 +10,10 @@ use Rattle.record_thread.specs.declared.Thread.{Thread}
 use Rattle.records.specs.declared.tables.Tables.{Tables}
 use Rattle.records.specs.Tables.{putJob, putProcess, putThread}
 use Rattle.records.specs.Tables.{jobAt, processAt, threadAt, ownAt, inheritedAt, fixedAt}
+use Rattle.model.specs.Reachable.{Sized}
 use Rattle.deciding.specs.declared.Slots.{Slots}
 use Rattle.deciding.specs.declared.Decided.{Decided}
 use Rattle.deciding.specs.Deciding.{Named, named, Holds, storing}
-
--- the tables have their lengths
-pub record Sized (t : Tables) : Type 0 where
-  pub jobs : length (t .jobs) ≡ 32
-  pub own : length (t .own) ≡ 32
-  pub inherited : length (t .inherited) ≡ 32
-  pub processes : length (t .processes) ≡ 64
-  pub fixed : length (t .fixed) ≡ 64
-  pub threads : length (t .threads) ≡ 128
 
 pub holds : (t : Tables) (s : Slots) (v : Thread) (q : Process) (j : Job) (o h f : JobPolicy) → Sized t →
     (s .thread < 128) × ((s .process < 64) × (s .job < 32)) →
@@ -51,4 +43,5 @@ stored-sized t s d z =
       processes = length-set (t .processes) (s .process) (d .process) ∙ z .processes;
       fixed = z .fixed;
       threads = length-set (t .threads) (s .thread) (d .thread) ∙ z .threads;
+      tokens = z .tokens;
     }

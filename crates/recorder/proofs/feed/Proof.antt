@@ -14,10 +14,11 @@ use mir.Facts.{toZ-ofZ}
 use Rattle.recorder.specs.declared.State.{State}
 use Rattle.recorder.specs.Recorder.{stateOf, fed, ahead}
 use Rattle.laws.proofs.Loops.{length-mapped}
+use Rattle.model.specs.Reachable.{Sized}
 use Rattle.deciding.specs.declared.Slots.{Slots}
 use Rattle.deciding.specs.Deciding.{storedAt}
 use Rattle.records.specs.Tables.{putJob, putProcess, putThread}
-use Rattle.recorder.proofs.Storing.{Sized, holds, holds-there, stored-sized}
+use Rattle.recorder.proofs.Storing.{holds, holds-there, stored-sized}
 use Rattle.recorder.proofs.Feeding.{begins, full, waits, stops, goes, whole-fits}
 use Rattle.recorder.proofs.feed.Statement.{statement}
 use Rattle.recorder.proofs.feed.Tie as tie
@@ -53,6 +54,7 @@ loop-holds c = (
     processes = search length-mapped;
     fixed = search length-mapped;
     threads = search length-mapped;
+    tokens = search length-mapped;
   },
   (omega arith, (omega arith, (refl, rw sub-zero (begins _)))),
 )
@@ -175,6 +177,7 @@ loop-again-2 c =
       processes = search (length-mapped, o .1 .1 .1 .0);
       fixed = search (length-mapped, o .1 .1 .1 .1 .0);
       threads = search (length-mapped, o .1 .1 .1 .1 .1 .0);
+      tokens = search (length-mapped, o .1 .1 .1 .1 .1 .1 .0);
     } in
     let got : SFits w64 (f .perform .result .answer) = search (needs, f .perform .ok) in
     let put = simp (m .next-number2 .ensures, toZ-ofZ {w = w64} got) at (p .put-line2 .ensures .0) in
