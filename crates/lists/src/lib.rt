@@ -1,0 +1,80 @@
+// lists: one table by itself: a record read or stored, and whether a job or a process lists something. A caller that has
+// all tables hands over the one that is looked at.
+ghost use mathlib.Core.Path.{_≡_};
+ghost use lib.ListN.{getD, set};
+ghost use Rattle.laws.specs.Lists.{any};
+ghost use Rattle.record_job.specs.Job.{noJob, childOf};
+ghost use Rattle.record_process.specs.Process.{memberOf};
+ghost use Rattle.record_thread.specs.Thread.{threadOf};
+use record_job::Job;
+use record_process::Process;
+use record_thread::Thread;
+
+// -- A record ------------------------------------------------------------------------------
+
+pub fn job_in(jobs: [Job; 32], name: u8) -> Job
+    ensures { λ r. ⌜ r ≡ getD jobs name noJob ⌝ }
+{
+    let i = name as usize;
+    if 32 <= i {
+        return Job::none();
+    }
+    jobs[i]
+}
+
+pub fn with_thread(mut threads: [Thread; 128], name: u8, v: Thread) -> [Thread; 128]
+    ensures { λ r. ⌜ r ≡ set threads name v ⌝ }
+{
+    let i = name as usize;
+    if i < 128 {
+        threads[i] = v;
+    }
+    threads
+}
+
+// -- Lists ---------------------------------------------------------------------------------
+
+// Whether job j lists a child.
+pub fn lists_child(jobs: [Job; 32], j: u8) -> bool
+    ensures { λ r. ⌜ r ≡ any (λ v. childOf v j) jobs ⌝ }
+{
+    let mut i: usize = 0;
+    while i < 32 {
+        let v = jobs[i];
+        if v.child_of(j) {
+            return true;
+        }
+        i += 1;
+    }
+    false
+}
+
+// Whether job j lists a process.
+pub fn lists_process(processes: [Process; 64], j: u8) -> bool
+    ensures { λ r. ⌜ r ≡ any (λ q. memberOf q j) processes ⌝ }
+{
+    let mut i: usize = 0;
+    while i < 64 {
+        let v = processes[i];
+        if v.member_of(j) {
+            return true;
+        }
+        i += 1;
+    }
+    false
+}
+
+// Whether process p lists a thread.
+pub fn lists_thread(threads: [Thread; 128], p: u8) -> bool
+    ensures { λ r. ⌜ r ≡ any (λ v. threadOf v p) threads ⌝ }
+{
+    let mut i: usize = 0;
+    while i < 128 {
+        let v = threads[i];
+        if v.thread_of(p) {
+            return true;
+        }
+        i += 1;
+    }
+    false
+}
