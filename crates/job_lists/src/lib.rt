@@ -12,10 +12,9 @@ use records::tables::Tables;
 pub fn job_empty(t: Tables, j: u8) -> bool
     ensures { λ r. ⌜ r ≡ jobEmpty t j ⌝ }
 {
-    if scans::lists_child(t, j) {
-        return false;
-    }
-    !scans::lists_process(t, j)
+    let jobs = t.jobs;
+    let processes = t.processes;
+    lists::job_empty(jobs, processes, j)
 }
 
 // Whether job j is job i or an ancestor of it.

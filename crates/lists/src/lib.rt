@@ -1,7 +1,9 @@
 // lists: one table by itself: a record read or stored, and whether a job or a process lists something. A caller that has
 // all tables hands over the one that is looked at.
+ghost use mathlib.Core.Bool.{not};
 ghost use mathlib.Core.Path.{_≡_};
 ghost use lib.ListN.{getD, set};
+ghost use Rattle.laws.specs.Choice.{_and_};
 ghost use Rattle.laws.specs.Lists.{any};
 ghost use Rattle.record_job.specs.Job.{noJob, childOf};
 ghost use Rattle.record_process.specs.Process.{memberOf};
@@ -77,4 +79,14 @@ pub fn lists_thread(threads: [Thread; 128], p: u8) -> bool
         i += 1;
     }
     false
+}
+
+// `is_empty`: job j lists no child and no process.
+pub fn job_empty(jobs: [Job; 32], processes: [Process; 64], j: u8) -> bool
+    ensures { λ r. ⌜ r ≡ (not (any (λ v. childOf v j) jobs) and not (any (λ q. memberOf q j) processes)) ⌝ }
+{
+    if lists_child(jobs, j) {
+        return false;
+    }
+    !lists_process(processes, j)
 }

@@ -2,7 +2,7 @@
 // with the tables can work in place. Follows job.rs. Each answers document 01's refusals in its order.
 ghost use mathlib.Core.Path.{_≡_};
 ghost use Rattle.model.specs.JobCalls.{killJobCall, setPolicyTimerSlack, jobInformation};
-ghost use Rattle.job_move.specs.JobMove.{Shows, Keeps, Settles};
+ghost use Rattle.job_move.specs.JobMove.{move, Shows, Keeps, Settles};
 ghost use Rattle.on_job.specs.OnJob.{fieldsOf};
 use error::Refusal;
 use error::ZxError;
@@ -74,6 +74,7 @@ pub fn kill(job: u8, j: Job) -> Early
 // 10: `Job::set_policy_timer_slack`; empty: the job lists nothing.
 pub fn set_policy_timer_slack(job: u8, j: Job, empty: bool, policy: TimerSlackPolicy) -> Move
     ensures { λ r. ⌜ Keeps (λ t. setPolicyTimerSlack t job policy) job j empty r ⌝ }
+    ensures { λ r. ⌜ r ≡ move (r .job) (r .answer) ⌝ }
 {
     if 2 < policy.mode {
         return answered(j, Refusal::BAD_FIELD);

@@ -1,6 +1,6 @@
 // scans: the loops over a table: whether something is on a list, and a change of each thread that a process lists.
 ghost use mathlib.Core.Path.{_≡_};
-ghost use Rattle.model.specs.Job.{listsChild, listsProcess, listsThread, stopIn, stopThreads};
+ghost use Rattle.model.specs.Job.{listsThread, stopIn, stopThreads};
 ghost use Rattle.model.specs.SuspendToken.{changeIn};
 ghost use Rattle.scans.specs.Scans.{hasCount, someCount, changeThreads};
 ghost use Rattle.record_thread.specs.Thread.{suspend, resume};
@@ -9,49 +9,12 @@ use records::tables::Tables;
 
 // -- Tests ---------------------------------------------------------------------------------
 
-// Whether job j lists a child.
-pub fn lists_child(t: Tables, j: u8) -> bool
-    ensures { λ r. ⌜ r ≡ listsChild t j ⌝ }
-{
-    let mut i: usize = 0;
-    while i < 32 {
-        let v = t.jobs[i];
-        if v.child_of(j) {
-            return true;
-        }
-        i += 1;
-    }
-    false
-}
-
-// Whether job j lists a process.
-pub fn lists_process(t: Tables, j: u8) -> bool
-    ensures { λ r. ⌜ r ≡ listsProcess t j ⌝ }
-{
-    let mut i: usize = 0;
-    while i < 64 {
-        let v = t.processes[i];
-        if v.member_of(j) {
-            return true;
-        }
-        i += 1;
-    }
-    false
-}
-
 // Whether process p lists a thread.
 pub fn lists_thread(t: Tables, p: u8) -> bool
     ensures { λ r. ⌜ r ≡ listsThread t p ⌝ }
 {
-    let mut i: usize = 0;
-    while i < 128 {
-        let v = t.threads[i];
-        if v.thread_of(p) {
-            return true;
-        }
-        i += 1;
-    }
-    false
+    let threads = t.threads;
+    lists::lists_thread(threads, p)
 }
 
 // Whether a thread is on the list of process p and has this suspend count.

@@ -15,4 +15,4 @@ set-policy-timer-slack-spec =
     (λ c.
     let b = c .before .before in
     let j = simp (b .before .before .slot .ensures) at (b .before .job-at .ensures) in
-    c .moved .ensures ∙ c .before .set-policy-timer-slack .ensures _ (sym j) (sym (b .job-empty .ensures))))
+    c .moved .ensures ∙ c .before .set-policy-timer-slack .ensures .0 _ (sym j) (sym (b .job-empty .ensures))))

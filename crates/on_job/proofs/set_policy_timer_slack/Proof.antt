@@ -1,10 +1,11 @@
 use Prim.Native.Nat.{_%_}
 use mathlib.Core.Path.{_≡_}
-use lib.IntN.{pos}
+use lib.IntN.{ℤ, pos}
 use mir.Syntax.{w64}
 use mir.Val.{SFits}
 use mir.Facts.{toZ-ofZ}
 use Rattle.job_policy.specs.Slack.{generateNew}
+use Rattle.record_job.specs.declared.Job.{Job}
 use Rattle.record_job.specs.Job.{withSlack}
 use Rattle.records.specs.declared.reply.Reply.{Reply}
 use Rattle.records.specs.declared.tables.Tables.{Tables}
@@ -39,33 +40,37 @@ stored : (c : tie.Else4) {m : Move} (t : Tables) →
     moved t (a .job) m ≡ answered (putJob t (a .job) (withSlack w (generateNew (w .slack) (a .policy)))) (pos 0)
 stored c t e = search moving
 
+-- an answer alone shows nothing
+alone : {m : Move} {j : Job} {a : ℤ} → m ≡ move j a → m ≡ move (m .job) (m .answer)
+alone e = rw e
+
 pub set-policy-timer-slack-spec : {M : Type 1} → statement M
 unfolding setPolicyTimerSlack
 set-policy-timer-slack-spec =
     tie.close
     (tie.spec
     (λ c κs. search needs)
-    (λ c t h k. search moving depth 20)
+    (λ c. ((λ t h k. search moving depth 20), alone (c .answered .ensures)))
     (λ c κs. search needs)
-    (λ c t h k. search moving depth 20)
+    (λ c. ((λ t h k. search moving depth 20), alone (c .answered2 .ensures)))
     (λ c κs. search needs)
     (λ c. search needs)
     (λ c. search needs)
     (λ c κs. search needs)
-    (λ c t h k. search moving depth 20)
+    (λ c. ((λ t h k. search moving depth 20), alone (c .answered3 .ensures)))
     (λ c κs. search needs)
-    (λ c t h k. search moving depth 20)
+    (λ c. ((λ t h k. search moving depth 20), alone (c .answered4 .ensures)))
     (λ c κs. search needs)
-    (λ c t h k.
+    (λ c.
     let b = c .before in
     let a = b .before .before .before .before .before .before .before .before .before .before .before .args in
     let f : SFits w64 (a .policy .slack) = search needs in
     let s = simp (toZ-ofZ {w = w64} f) at (b .if4 .taken) in
-    search (moving, s) depth 20)
+    ((λ t h k. search (moving, s) depth 20), alone (c .answered5 .ensures)))
     (λ c κs. search needs)
     (λ c κs. search needs)
     (λ c κs. search needs)
-    (λ c t h k.
+    (λ c.
     let b = c .before .before .before .before in
-    past-slack b t h k (stored b t
-    (simp (c .before .with-slack .ensures, c .before .before .generate-new .ensures) at (c .answered6 .ensures)))))
+    let e = simp (c .before .with-slack .ensures, c .before .before .generate-new .ensures) at (c .answered6 .ensures) in
+    ((λ t h k. past-slack b t h k (stored b t e)), alone e)))
