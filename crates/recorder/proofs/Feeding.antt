@@ -12,8 +12,11 @@ use mathlib.Core.List.{List, [], _∷_, _++_, append-nil, append-assoc}
 use borrow.Author.Tests.{lt-ltb, le-ltb}
 use lib.ListN.{length, take, drop, length-append, length-drop}
 use lib.Seq.{take-all, length-take-le, drop-drop}
+use lib.IntN.{ℤ}
 use Rattle.laws.specs.Choice.{if_then_else_}
+use Rattle.job_policy.specs.declared.JobPolicy.{JobPolicy}
 use Rattle.records.specs.declared.tables.Tables.{Tables}
+use Rattle.records.specs.declared.reply.Fields.{Fields}
 use Rattle.records.specs.declared.reply.Reply.{Reply}
 use Rattle.model.specs.Step.{step}
 use Rattle.commands.specs.declared.Next.{Next}
@@ -21,12 +24,17 @@ use Rattle.commands.specs.declared.Next.the-variants.{Wait, Stop, Whole}
 use Rattle.commands.specs.Commands.{nextOf}
 use Rattle.commands.proofs.Stays.{whole-bounds}
 use Rattle.calls.specs.Calls.{callIn}
-use Rattle.lines.specs.Line.{Put}
+use Rattle.lines.specs.Line.{lineOf, Put}
 use Rattle.recorder.specs.declared.State.{State}
 use Rattle.recorder.specs.declared.Fed.{Fed}
 use Rattle.recorder.specs.Recorder.{nextNumber, stateOf, replyTo, after, lineFor, line, stopAt}
 use Rattle.recorder.specs.Recorder.{Part, part, ahead, fed, fedStep, Feeds}
 use Rattle.recorder.proofs.Parts.{fed-is}
+
+-- a line by other names for its number, its answer and its policy
+pub as-lined : {before now : List ℕ} {at r : ℕ} {n m : ℕ} {a b : ℤ} (f : Fields) {p q : JobPolicy} → n ≡ m → a ≡ b → p ≡ q →
+    Put before now at r (lineOf n a f p) → Put before now at r (lineOf m b f q)
+as-lined f d e g h = simp (d, e, g) at h
 
 pub begins : (p : Part) → p ≡ ahead 0 [] p
 begins p = rw zero-add

@@ -1,5 +1,5 @@
 -- The records that `feed` reads from its tables are those that a command names. Assumes nothing.
-use Prim.Native.Nat.{ℕ, _<_}
+use Prim.Native.Nat.{ℕ, _<_, _%_}
 use mathlib.Core.Path.{_≡_, _∙_, subst}
 use lib.ListN.{length, getD, length-set}
 use Rattle.laws.proofs.Tables.{read-in}
@@ -8,9 +8,12 @@ use Rattle.record_job.specs.declared.Job.{Job}
 use Rattle.record_process.specs.declared.Process.{Process}
 use Rattle.record_thread.specs.declared.Thread.{Thread}
 use Rattle.records.specs.declared.tables.Tables.{Tables}
-use Rattle.records.specs.Tables.{putJob, putProcess, putThread}
+use Rattle.records.specs.Tables.{putJob, putOwn, putInherited, putProcess, putFixed, putThread}
+use Rattle.records.specs.Tables.{putToken}
 use Rattle.records.specs.Tables.{jobAt, processAt, threadAt, ownAt, inheritedAt, fixedAt}
 use Rattle.model.specs.Reachable.{Sized}
+use Rattle.change.specs.declared.Change.{Change}
+use Rattle.change.specs.Change as defs
 use Rattle.deciding.specs.declared.Slots.{Slots}
 use Rattle.deciding.specs.declared.Decided.{Decided}
 use Rattle.deciding.specs.Deciding.{Named, named, Holds, storing}
@@ -44,4 +47,17 @@ stored-sized t s d z =
       fixed = z .fixed;
       threads = length-set (t .threads) (s .thread) (d .thread) ∙ z .threads;
       tokens = z .tokens;
+    }
+
+pub changed-sized : (t : Tables) (c : Change) → Sized t → Sized (defs.storing t c)
+unfolding defs.storing putJob putOwn putInherited putProcess putFixed putThread putToken
+changed-sized t c z =
+    record {
+      jobs = length-set (t .jobs) (c .j % 32) (c .job) ∙ z .jobs;
+      own = length-set (t .own) (c .j % 32) (c .own) ∙ z .own;
+      inherited = length-set (t .inherited) (c .j % 32) (c .inherited) ∙ z .inherited;
+      processes = length-set (t .processes) (c .p % 64) (c .process) ∙ z .processes;
+      fixed = length-set (t .fixed) (c .p % 64) (c .fixed) ∙ z .fixed;
+      threads = length-set (t .threads) (c .n % 128) (c .thread) ∙ z .threads;
+      tokens = length-set (t .tokens) (c .k % 64) (c .token) ∙ z .tokens;
     }

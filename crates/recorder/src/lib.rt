@@ -9,6 +9,7 @@ ghost use Rattle.lines.specs.Line.{Put};
 ghost use Rattle.recorder.specs.Recorder.{nextNumber, freshState, fedAt, fed};
 ghost use Rattle.recorder.specs.Recorder.{Feeds, closedWithin, Recorder};
 use commands::Next;
+use job_policy::JobPolicy;
 use records::tables::Tables;
 
 // Where a stream stands: the tables, and the number of the last line.
@@ -111,11 +112,35 @@ pub fn feed(state: State, input: &[u8], out: &mut [u8]) -> Fed
                     t.processes[p] = process;
                     t.jobs[j] = job;
                 } else {
-                    let r = calls::perform(t, command);
-                    let fields = r.fields;
-                    let policy = r.policy;
-                    written = lines::put_line(out, written, number, r.answer, fields, policy);
-                    t = r.tables;
+                    let c = changing::change_of(t, command);
+                    if c.whole {
+                        let fields = c.fields;
+                        written = lines::put_line(out, written, number, c.answer, fields, JobPolicy::none());
+                        let x = (c.j % 32) as usize;
+                        let y = (c.p % 64) as usize;
+                        let z = (c.n % 128) as usize;
+                        let w = (c.k % 64) as usize;
+                        let job = c.job;
+                        let own = c.own;
+                        let inherited = c.inherited;
+                        let process = c.process;
+                        let fixed = c.fixed;
+                        let thread = c.thread;
+                        let token = c.token;
+                        t.jobs[x] = job;
+                        t.own[x] = own;
+                        t.inherited[x] = inherited;
+                        t.processes[y] = process;
+                        t.fixed[y] = fixed;
+                        t.threads[z] = thread;
+                        t.tokens[w] = token;
+                    } else {
+                        let r = calls::perform(t, command);
+                        let fields = r.fields;
+                        let policy = r.policy;
+                        written = lines::put_line(out, written, number, r.answer, fields, policy);
+                        t = r.tables;
+                    }
                 }
             }
         }

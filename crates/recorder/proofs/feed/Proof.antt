@@ -17,9 +17,12 @@ use Rattle.laws.proofs.Loops.{length-mapped}
 use Rattle.model.specs.Reachable.{Sized}
 use Rattle.deciding.specs.declared.Slots.{Slots}
 use Rattle.deciding.specs.Deciding.{storedAt}
-use Rattle.records.specs.Tables.{putJob, putProcess, putThread}
-use Rattle.recorder.proofs.Storing.{holds, holds-there, stored-sized}
-use Rattle.recorder.proofs.Feeding.{begins, full, waits, stops, goes, whole-fits}
+use Rattle.records.specs.Reply.{reply}
+use Rattle.records.specs.Tables.{putJob, putOwn, putInherited, putProcess, putFixed, putThread}
+use Rattle.records.specs.Tables.{putToken}
+use Rattle.change.specs.Change.{storing, stored}
+use Rattle.recorder.proofs.Storing.{holds, holds-there, stored-sized, changed-sized}
+use Rattle.recorder.proofs.Feeding.{begins, full, waits, stops, goes, whole-fits, as-lined}
 use Rattle.recorder.proofs.feed.Statement.{statement}
 use Rattle.recorder.proofs.feed.Tie as tie
 
@@ -119,8 +122,14 @@ sized c = c .before .before .before .before .before .before .before .before .bef
 abbrev numbered : tie.After-job Inv-loop μ-loop → tie.After-next-number2 Inv-loop μ-loop
 numbered c = c .before .before .before .before .before .before .before .before .before .before
 
-abbrev numbered-2 : tie.After-t2 Inv-loop μ-loop → tie.After-next-number2 Inv-loop μ-loop
-numbered-2 c = c .before .before .before .before .before .before .before .before .before
+abbrev numbered-3 : tie.After-t2 Inv-loop μ-loop → tie.After-next-number2 Inv-loop μ-loop
+numbered-3 c = c .before .before .before .before .before .before .before .before .before .before .before
+
+abbrev lined : tie.After-token Inv-loop μ-loop → tie.After-put-line2 Inv-loop μ-loop
+lined c = c .before .before .before .before .before .before .before .before .before .before .before .before .before
+
+abbrev numbered-2 : tie.After-token Inv-loop μ-loop → tie.After-next-number2 Inv-loop μ-loop
+numbered-2 c = lined c .before .before .before .before .before .before .before
 
 -- where the slots are known: they are within the tables
 abbrev placed : tie.After-job Inv-loop μ-loop → tie.After-slots-of Inv-loop μ-loop
@@ -158,12 +167,42 @@ loop-again c =
       ),
     )
 
--- performed on the tables
+-- changed in no more than the records of a change
 loop-again-2 : tie.Need-loop-again-2 Inv-loop μ-loop
+unfolding stored storing reply putJob putOwn putInherited putProcess putFixed putThread putToken
 loop-again-2 c =
+    let p = lined c in
+    let o = p .before .before in
+    let w = o .before .before in
+    let d = w .before in
+    let m = d .before .before in
+    let k = sized m in
+    let n = k .before .before in
+    let e = n .before .before in
+    let l = e .before in
+    let got : SFits w64 (d .change-of .result .answer) = record { sfits = d .change-of .ok .1 .1 .1 .0 .1 } in
+    let put = as-lined _ (m .next-number2 .ensures) (toZ-ofZ {w = w64} got) (o .none .ensures) (p .put-line2 .ensures .0) in
+    let g =
+    goes (input l) (out₀ l) (l .loop .out) (state l) (here l) (l .loop .at) (l .loop .written)
+    (l .loop .inv .1)
+    (e .if1 .left) _ (n .next-of .ensures) _ (k .n .given .1) (stored (l .loop .t) (d .change-of .result))
+    (d .change-of .ensures (w .if3 .taken)) put in (
+      changed-sized (l .loop .t) (d .change-of .result) (l .loop .inv .0),
+      (
+        fits k .1,
+        (
+          omega (arith, p .put-line2 .ensures .1, p .put-line2 .kept .0, e .if1 .left),
+          (p .put-line2 .kept .0 ∙ l .loop .inv .1 .1 .1 .0, rw (m .next-number2 .ensures) g),
+        ),
+      ),
+    )
+
+-- performed on the tables
+loop-again-3 : tie.Need-loop-again-3 Inv-loop μ-loop
+loop-again-3 c =
     let p = c .before .before .before in
     let f = p .before .before .before .before in
-    let m = f .before .before in
+    let m = f .before .before .before .before in
     let k = sized m in
     let n = k .before .before in
     let e = n .before .before in
@@ -180,7 +219,7 @@ loop-again-2 c =
       tokens = search (length-mapped, o .1 .1 .1 .1 .1 .1 .0);
     } in
     let got : SFits w64 (f .perform .result .answer) = search (needs, f .perform .ok) in
-    let put = simp (m .next-number2 .ensures, toZ-ofZ {w = w64} got) at (p .put-line2 .ensures .0) in
+    let put = simp (m .next-number2 .ensures, toZ-ofZ {w = w64} got) at (p .put-line3 .ensures .0) in
     let g =
     goes (input l) (out₀ l) (l .loop .out) (state l) (here l) (l .loop .at) (l .loop .written)
     (l .loop .inv .1)
@@ -189,8 +228,8 @@ loop-again-2 c =
       (
         fits k .1,
         (
-          omega (arith, p .put-line2 .ensures .1, p .put-line2 .kept .0, e .if1 .left),
-          (p .put-line2 .kept .0 ∙ l .loop .inv .1 .1 .1 .0, rw (m .next-number2 .ensures) g),
+          omega (arith, p .put-line3 .ensures .1, p .put-line3 .kept .0, e .if1 .left),
+          (p .put-line3 .kept .0 ∙ l .loop .inv .1 .1 .1 .0, rw (m .next-number2 .ensures) g),
         ),
       ),
     )
@@ -253,6 +292,29 @@ feed-spec =
     (λ c. omega (arith, fits (sized (numbered c)) .0, fits (sized (numbered c)) .1))
     loop-again
     (λ c κs. tt)
-    (λ c κs. omega (arith, sized (c .before .before .before .before .before) .before .before .before .before .if1 .left))
+    (λ c κs. tt)
+    (λ c κs. omega (arith, sized (c .before .before .before .before .before .before) .before .before .before .before .if1 .left))
+    (λ c. search needs)
+    (λ c. search needs)
+    (λ c. search needs)
+    (λ c. search needs)
+    (λ c. search needs)
+    (λ c. search needs)
+    (λ c. search needs)
+    (λ c. search needs)
+    (λ c. search needs)
+    (λ c. search needs)
+    (λ c. search needs)
+    (λ c. search needs)
+    (λ c. search needs)
+    (λ c. search needs)
+    (λ c. search needs)
+    (λ c. search needs)
+    (λ c. search needs)
+    (λ c. search needs)
     (λ c. omega (arith, fits (sized (numbered-2 c)) .0, fits (sized (numbered-2 c)) .1))
-    loop-again-2)
+    loop-again-2
+    (λ c κs. tt)
+    (λ c κs. omega (arith, sized (c .before .before .before .before .before .before .before) .before .before .before .before .if1 .left))
+    (λ c. omega (arith, fits (sized (numbered-3 c)) .0, fits (sized (numbered-3 c)) .1))
+    loop-again-3)

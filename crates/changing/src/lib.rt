@@ -1,0 +1,34 @@
+// changing: what a command changes, where that is at most one record of each table: the records to store, and its answer.
+// A command that may change more is left open.
+ghost use mathlib.Core.Path.{_≡_};
+ghost use Rattle.commands.specs.Commands.{byte, long, signed64};
+ghost use Rattle.model.specs.Step.{step, cmd10};
+ghost use Rattle.calls.specs.Calls.{callIn};
+ghost use Rattle.change.specs.Change.{Comes};
+use change::Change;
+use change::unchanged;
+use commands::byte_at;
+use commands::value_at;
+use job_policy::TimerSlackPolicy;
+use records::tables::Tables;
+
+// 10, with its amount and mode.
+fn set_slack(t: Tables, s: &[u8]) -> Change
+    ensures { λ r. ⌜ Comes t (step t (cmd10 (byte (now (s .entry)) 1) (signed64 (long (now (s .entry)) 2)) (byte (now (s .entry)) 10))) r ⌝ }
+{
+    let policy = TimerSlackPolicy {
+        slack: value_at(s),
+        mode: byte_at(s, 10),
+    };
+    policy_changes::set_policy_timer_slack(t, byte_at(s, 1), policy)
+}
+
+// A command as `commands::next_of` finds it.
+pub fn change_of(t: Tables, s: &[u8]) -> Change
+    ensures { λ r. ⌜ Comes t (step t (callIn (now (s .entry)))) r ⌝ }
+{
+    match byte_at(s, 0) {
+        0x10 => set_slack(t, s),
+        _ => unchanged(t, 0, 0, 0, 0),
+    }
+}
