@@ -1,13 +1,17 @@
 -- A record put back where it was read changes nothing, so of a change only what differs is stored.
+--     left-open                                nothing is said of a call
+--     job-read, own-read, ..                   what was read
 --     stays                                    nothing differs
 --     stores-job, stores-process, ..           one record differs
--- The names are those of the records read; Assumes nothing.
+-- Assumes nothing.
 use Prim.Native.Nat.{ℕ, _%_, _<_}
 use native.Mathlib.Omega.{arith}
 use mathlib.Core.Path.{_≡_, refl, ap, _∙_}
 use lib.IntN.{ℤ}
 use lib.ListN.{getD, set}
 use lib.Seq.{set-getD}
+use mathlib.Core.Bool.{true}
+use Rattle.laws.proofs.Cases.{no-both}
 use Rattle.job_policy.specs.declared.JobPolicy.{JobPolicy}
 use Rattle.job_policy.specs.Policy.{noPolicy}
 use Rattle.record_job.specs.declared.Job.{Job}
@@ -28,6 +32,11 @@ use Rattle.change.specs.declared.Change.{Change}
 use Rattle.change.specs.Change as defs
 
 module _ (t : Tables) (j p n k : ℕ) {c : Change} (e : c ≡ defs.unchanged t j p n k) where
+  -- nothing is said of a call by the records as they are
+  pub left-open : {A : Type 0} → c .whole ≡ true → A
+  unfolding defs.unchanged
+  left-open h = no-both h (ap (λ (x : Change). x .whole) e)
+
   -- ---- What was read -------------------------------------------------------------------------
 
   pub job-read : j < 32 → c .job ≡ jobAt t j

@@ -1,6 +1,5 @@
 -- One pass over a list comes to what `setPolicyBasic` says of it: the check of every entry first,
 -- then the entries in order.
---     afterEach     what is known after the entries, from what was known before
 --     one-pass      what is answered then is the definition's answer
 --     pass-next, pass-end      a turn of a loop over the list, and its end
 --     first-next, first-end    the same over the first n of an array
@@ -27,11 +26,7 @@ use Rattle.model.specs.JobCalls.{setPolicyBasic}
 use Rattle.model.specs.JobPolicy.{badEntry, Setting, setting, setEach, setPolicy}
 use Rattle.policy_calls.specs.declared.Work.{Work}
 use Rattle.policy_calls.specs.Work.{beginWork, enterWork, stepWork, finishWork}
-use Rattle.policy_calls.specs.Work.{settingOf, answerWith}
-
-unfoldable pub afterEach : Work → List BasicPolicy → Work
-afterEach w [] = w
-afterEach w (b ∷ l) = afterEach (stepWork w b) l
+use Rattle.policy_calls.specs.Work.{afterEach, settingOf, answerWith}
 
 -- ---- Whether some entry was bad ----------------------------------------------------------------
 
@@ -144,23 +139,18 @@ module _ (w : Work) (l : List BasicPolicy) (i : ℕ) where
   unfolding afterEach
   pass-end h = rw (drop-of-length-le l h)
 
--- the same of the first n of an array of k entries
-abbrev pub Passed : Tables → ℕ → ℕ → List BasicPolicy → ℕ → ℕ → Work → ℕ → Type 0
-Passed t j option l n k w i =
-    (length l ≡ k) × ((i ≤ n)
-    × (afterEach w (drop i (take n l)) ≡ afterEach (beginWork t j option) (take n l)))
+-- the same of the first n of an array of k entries, from what was known before
+abbrev pub Passed : Work → List BasicPolicy → ℕ → ℕ → Work → ℕ → Type 0
+Passed w₀ l n k w i =
+    (length l ≡ k) × ((i ≤ n) × (afterEach w (drop i (take n l)) ≡ afterEach w₀ (take n l)))
 
-module _ (t : Tables) (j option : ℕ) (l : List BasicPolicy) (n k : ℕ) (w : Work) (i : ℕ)
-    (inv : Passed t j option l n k w i) where
+module _ (w₀ : Work) (l : List BasicPolicy) (n k : ℕ) (w : Work) (i : ℕ) (inv : Passed w₀ l n k w i) where
   pub first-next : (d : BasicPolicy) (u : Work) → i < n → i < k → u ≡ stepWork w (getD l i d)
-      → afterEach u (drop (i + 1) (take n l)) ≡ afterEach (beginWork t j option) (take n l)
+      → afterEach u (drop (i + 1) (take n l)) ≡ afterEach w₀ (take n l)
   first-next d u h g e =
       let m : i < length (take n l) = simp length-take (omega arith) in
       let at : getD (take n l) i d ≡ getD l i d = rw getD-take in
       sym (rw (e, ← at) (pass-next w (take n l) i d m)) ∙ inv .1 .1
 
-  pub first-end : {r : Reply} → length (take n l) ≤ i → r ≡ finishWork t j option w
-      → r ≡ setPolicyBasic t j option (take n l)
-  first-end h e =
-      e ∙ ap (finishWork t j option) (sym (pass-end w (take n l) i h) ∙ inv .1 .1)
-      ∙ one-pass t j option (take n l)
+  pub first-end : length (take n l) ≤ i → w ≡ afterEach w₀ (take n l)
+  first-end h = sym (pass-end w (take n l) i h) ∙ inv .1 .1

@@ -2,6 +2,7 @@
 -- answered at the end. `one-pass` of proofs/Fold.antt takes this to `setPolicyBasic` of model.
 use Prim.Native.Nat.{ℕ}
 use mathlib.Core.Bool.{Bool, true, false, not}
+use mathlib.Core.List.{List, [], _∷_}
 use Rattle.laws.specs.Choice.{_≤?_, _<?_, _=?_, if_then_else_}
 use Rattle.laws.specs.Guarded.{Guarded, ok, _>>_, _>>=_, refuse_when_, deny_when_}
 use Rattle.error.specs.Numbers.{BAD-STATE}
@@ -20,8 +21,12 @@ abbrev pub work : JobPolicy → JobPolicy → ℕ → Bool → Bool → Work
 work own inherited option bad refused =
     record { own = own; inherited = inherited; option = option; bad = bad; refused = refused }
 
+-- before the first entry: what the job has set, and what it inherited
+abbrev pub startWork : JobPolicy → JobPolicy → ℕ → Work
+startWork own inherited option = work own inherited option false false
+
 unfoldable pub beginWork : Tables → ℕ → ℕ → Work
-beginWork t j option = work (ownAt t j) (inheritedAt t j) option false false
+beginWork t j option = startWork (ownAt t j) (inheritedAt t j) option
 
 -- where the parent set the condition, Absolute (0) refuses the entry and Relative skips it (M10)
 unfoldable pub enterWork : Work → BasicPolicy → Work
@@ -36,6 +41,11 @@ stepWork w b =
     if badEntry b then work (w .own) (w .inherited) (w .option) true (w .refused) else
     if w .refused then w else
     enterWork w b
+
+-- what is known after these entries
+unfoldable pub afterEach : Work → List BasicPolicy → Work
+afterEach w [] = w
+afterEach w (b ∷ l) = afterEach (stepWork w b) l
 
 abbrev pub settingOf : Work → Setting
 settingOf w = setting (w .own) (w .refused)

@@ -5,7 +5,8 @@ ghost use lib.ListN.{take};
 ghost use mathlib.Core.Path.{_≡_};
 ghost use Rattle.model.specs.JobCalls.{setPolicyBasic};
 ghost use Rattle.model.specs.JobPolicy.{badEntry, setting, policySet};
-ghost use Rattle.policy_calls.specs.Work.{beginWork, enterWork, stepWork, finishWork};
+ghost use Rattle.policy_calls.specs.Work.{startWork, beginWork, enterWork, stepWork};
+ghost use Rattle.policy_calls.specs.Work.{afterEach, finishWork};
 use error::Refusal;
 use error::ZxError;
 use job_policy::ActionFound;
@@ -20,14 +21,14 @@ use records::tables::Tables;
 // -- One pass over a list ------------------------------------------------------------------
 
 // What is known after some entries. No tables: an entry costs a copy of this alone.
-struct Work {
-    own: JobPolicy,
-    inherited: JobPolicy,
-    option: u8,
+pub struct Work {
+    pub own: JobPolicy,
+    pub inherited: JobPolicy,
+    pub option: u8,
     // Whether an entry was outside its lists.
-    bad: bool,
+    pub bad: bool,
     // Whether an entry was refused: none after it is set.
-    refused: bool,
+    pub refused: bool,
 }
 
 // A condition or an action outside its list.
@@ -82,6 +83,35 @@ fn step(mut w: Work, policy: BasicPolicy) -> Work
         return w;
     }
     enter(w, policy)
+}
+
+// At most four entries, from what the job has set and what it inherited; a count above 4 takes all four.
+pub fn four(
+    own: JobPolicy,
+    inherited: JobPolicy,
+    option: u8,
+    count: u8,
+    policies: [BasicPolicy; 4],
+) -> Work
+    ensures { λ r. ⌜ r ≡ afterEach (startWork own inherited option) (take count policies) ⌝ }
+{
+    let mut w = Work {
+        own: own,
+        inherited: inherited,
+        option: option,
+        bad: false,
+        refused: false,
+    };
+    let n = count as usize;
+    let mut i: usize = 0;
+    while i < 4 {
+        if n <= i {
+            return w;
+        }
+        w = step(w, policies[i]);
+        i += 1;
+    }
+    w
 }
 
 // -- The answer ----------------------------------------------------------------------------
@@ -145,15 +175,7 @@ pub fn set_policy_four(
 ) -> Reply
     ensures { λ r. ⌜ r ≡ setPolicyBasic t job option (take count policies) ⌝ }
 {
-    let mut w = begin(t, job, option);
-    let n = count as usize;
-    let mut i: usize = 0;
-    while i < 4 {
-        if n <= i {
-            return finish(t, job, option, w);
-        }
-        w = step(w, policies[i]);
-        i += 1;
-    }
-    finish(t, job, option, w)
+    let own = t.own_at(job);
+    let inherited = t.inherited_at(job);
+    finish(t, job, option, four(own, inherited, option, count, policies))
 }

@@ -18,10 +18,10 @@ use Rattle.change.specs.declared.Change.{Change}
 use Rattle.change.specs.Change as defs
 use Rattle.change.proofs.Storing.{stores-job}
 
-abbrev emptyIn : Tables → ℕ → Bool
+abbrev pub emptyIn : Tables → ℕ → Bool
 emptyIn t j = not (any (λ v. childOf v j) (t .jobs)) and not (any (λ q. memberOf q j) (t .processes))
 
-empty-there : (t : Tables) (j : ℕ) {b : Bool} → b ≡ emptyIn t j → jobEmpty t j ≡ b
+pub empty-there : (t : Tables) (j : ℕ) {b : Bool} → b ≡ emptyIn t j → jobEmpty t j ≡ b
 unfolding jobEmpty listsChild listsProcess
 empty-there t j e = sym e
 

@@ -58,9 +58,9 @@ use Rattle.records.specs.declared.tables.Tables.{Tables}
 use Rattle.records.specs.declared.reply.Reply.{Reply}
 use Rattle.model.specs.JobCalls.{setPolicyBasic}
 use Rattle.policy_calls.specs.declared.Work.{Work}
-use Rattle.policy_calls.specs.Work.{beginWork, stepWork, finishWork}
+use Rattle.policy_calls.specs.Work.{beginWork, stepWork, afterEach, finishWork}
 use Rattle.policy_calls.proofs.Walk.{plain-call, tests}
-use Rattle.policy_calls.proofs.Fold.{afterEach, one-pass, pass-next, pass-end}
+use Rattle.policy_calls.proofs.Fold.{one-pass, pass-next, pass-end}
 use Rattle.records.proofs.tables.Tables as T
 use Rattle.records.proofs.tables.Tables.Laws as T′
 use Rattle.job_policy.proofs.BasicPolicy as B
