@@ -6,8 +6,8 @@ ghost use Rattle.model.specs.ExceptionCalls.{closeException, setState, setStrat
 ghost use Rattle.model.specs.ExceptionCalls.{getProcessHandle};
 use error::Refusal;
 use error::ZxError;
-use exception::levels::is_no_type;
-use exception::levels::route_of;
+use levels::is_no_type;
+use levels::route_of;
 use owners::FoundLevel;
 use record_exception::Level;
 use record_thread::FoundException;
