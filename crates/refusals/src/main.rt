@@ -202,17 +202,17 @@ fn suspends(t: Tables) {
 
 // The levels of process 1 are shut; level 4 of job 1 is bound.
 fn levels(t: Tables) {
-    let bound = exception_calls::create_channel(t, 4, 1).tables;
-    show(0x12, exception_calls::create_channel(bound, 6, 128).answer);
-    show(0x12, exception_calls::create_channel(bound, 0, 128).answer);
-    show(0x12, exception_calls::create_channel(bound, 2, 128).answer);
-    show(0x12, exception_calls::create_channel(bound, 2, 9).answer);
-    show(0x12, exception_calls::create_channel(bound, 3, 1).answer);
-    show(0x12, exception_calls::create_channel(bound, 4, 1).answer);
-    show(0x13, exception_calls::hang_up(bound, 6, 128).answer);
-    show(0x13, exception_calls::hang_up(bound, 4, 32).answer);
-    show(0x13, exception_calls::hang_up(bound, 4, 9).answer);
-    show(0x13, exception_calls::hang_up(bound, 5, 1).answer);
+    let bound = channel_calls::create_channel(t, 4, 1).tables;
+    show(0x12, channel_calls::create_channel(bound, 6, 128).answer);
+    show(0x12, channel_calls::create_channel(bound, 0, 128).answer);
+    show(0x12, channel_calls::create_channel(bound, 2, 128).answer);
+    show(0x12, channel_calls::create_channel(bound, 2, 9).answer);
+    show(0x12, channel_calls::create_channel(bound, 3, 1).answer);
+    show(0x12, channel_calls::create_channel(bound, 4, 1).answer);
+    show(0x13, channel_calls::hang_up(bound, 6, 128).answer);
+    show(0x13, channel_calls::hang_up(bound, 4, 32).answer);
+    show(0x13, channel_calls::hang_up(bound, 4, 9).answer);
+    show(0x13, channel_calls::hang_up(bound, 5, 1).answer);
     show(
         0x14,
         exception_calls::handle_exception(t, 128, 0x8408).answer,
@@ -228,7 +228,7 @@ fn levels(t: Tables) {
 
 // Thread 1 waits in an exception at its own level.
 fn handlers(t: Tables) {
-    let bound = exception_calls::create_channel(t, 2, 1).tables;
+    let bound = channel_calls::create_channel(t, 2, 1).tables;
     let raised = exception_calls::handle_exception(bound, 1, 8).tables;
     show(0x16, exception_calls::set_state(raised, 128, 2).answer);
     show(0x16, exception_calls::set_state(raised, 9, 2).answer);

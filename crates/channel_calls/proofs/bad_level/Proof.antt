@@ -1,6 +1,6 @@
 use Rattle.laws.proofs.Flow.{branches}
-use Rattle.exception_calls.proofs.bad_level.Statement.{statement}
-use Rattle.exception_calls.proofs.bad_level.Tie as tie
+use Rattle.channel_calls.proofs.bad_level.Statement.{statement}
+use Rattle.channel_calls.proofs.bad_level.Tie as tie
 
 pub bad-level-spec : {M : Type 1} → statement M
 bad-level-spec =

@@ -8,8 +8,8 @@ use Rattle.records.specs.Reply.{answered}
 use Rattle.model.specs.ExceptionCalls.{bindLevel}
 use Rattle.model.proofs.Answering.{answering}
 use borrow.Author.Needs.{needs}
-use Rattle.exception_calls.proofs.create_channel.Statement.{statement}
-use Rattle.exception_calls.proofs.create_channel.Tie as tie
+use Rattle.channel_calls.proofs.create_channel.Statement.{statement}
+use Rattle.channel_calls.proofs.create_channel.Tie as tie
 
 past-then4 : (c : tie.Then4) {x : Reply} →
     let a = c .before .before .before .before .before .before .before .before .before .before .before .before .args in

@@ -7,8 +7,8 @@ use Rattle.records.specs.Reply.{answered}
 use Rattle.model.specs.ExceptionCalls.{hangUpLevel}
 use Rattle.model.proofs.Answering.{answering}
 use borrow.Author.Needs.{needs}
-use Rattle.exception_calls.proofs.hang_up.Statement.{statement}
-use Rattle.exception_calls.proofs.hang_up.Tie as tie
+use Rattle.channel_calls.proofs.hang_up.Statement.{statement}
+use Rattle.channel_calls.proofs.hang_up.Tie as tie
 
 past-else3 : (c : tie.Else3) {x : Reply} →
     let a = c .before .before .before .before .before .before .before .before .before .before .args in
