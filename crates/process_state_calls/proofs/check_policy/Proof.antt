@@ -1,7 +1,7 @@
 use mathlib.Core.Path.{sym, _∙_}
 use borrow.Author.Needs.{needs}
-use Rattle.process_calls.proofs.check_policy.Statement.{statement}
-use Rattle.process_calls.proofs.check_policy.Tie as tie
+use Rattle.process_state_calls.proofs.check_policy.Statement.{statement}
+use Rattle.process_state_calls.proofs.check_policy.Tie as tie
 
 pub check-policy-spec : {M : Type 1} → statement M
 check-policy-spec =

@@ -1,7 +1,7 @@
 use mathlib.Core.Path.{sym, _∙_}
 use borrow.Author.Needs.{needs}
-use Rattle.process_calls.proofs.start.Statement.{statement}
-use Rattle.process_calls.proofs.start.Tie as tie
+use Rattle.process_state_calls.proofs.start.Statement.{statement}
+use Rattle.process_state_calls.proofs.start.Tie as tie
 
 pub start-spec : {M : Type 1} → statement M
 start-spec =

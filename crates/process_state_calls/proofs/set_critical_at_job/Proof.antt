@@ -8,8 +8,8 @@ use Rattle.records.specs.Tables.{putProcess}
 use Rattle.model.specs.JobCalls.{setCriticalAtJob}
 use Rattle.model.proofs.Answering.{answering}
 use borrow.Author.Needs.{needs}
-use Rattle.process_calls.proofs.set_critical_at_job.Statement.{statement}
-use Rattle.process_calls.proofs.set_critical_at_job.Tie as tie
+use Rattle.process_state_calls.proofs.set_critical_at_job.Statement.{statement}
+use Rattle.process_state_calls.proofs.set_critical_at_job.Tie as tie
 
 past-bound : (c : tie.Then4) {x : Reply} →
     let a = c .before .before .before .before .before .before .before .before .before .before .before

@@ -1,7 +1,7 @@
 use mathlib.Core.Path.{sym, _∙_}
 use borrow.Author.Needs.{needs}
-use Rattle.process_calls.proofs.get_info.Statement.{statement}
-use Rattle.process_calls.proofs.get_info.Tie as tie
+use Rattle.process_state_calls.proofs.get_info.Statement.{statement}
+use Rattle.process_state_calls.proofs.get_info.Tie as tie
 
 pub get-info-spec : {M : Type 1} → statement M
 get-info-spec =
