@@ -1,56 +1,22 @@
 -- The search for a handler, along the ways of the code. Assumes nothing.
 use Prim.Native.Nat.{ℕ, zero, suc}
 use mathlib.Core.Path.{_≡_, refl, sym, ap, _∙_}
-use mathlib.Core.Logic.{_≢_}
 use mathlib.Core.Bool.{Bool, true, false}
-use borrow.Author.Tests.{ne-eqb}
-use Rattle.laws.specs.Choice.{_or_, _=?_, if_then_else_}
-use Rattle.laws.proofs.Flow.{yes, no, second, or-goes}
+use Rattle.laws.proofs.Flow.{yes, no}
 use Rattle.record_exception.specs.declared.Level.{Level}
 use Rattle.record_exception.specs.declared.Place.{Place}
-use Rattle.record_exception.specs.declared.Place.the-variants.{Debugger, OwnThread, OwnProcess}
-use Rattle.record_exception.specs.declared.Place.the-variants.{SecondChance, OfJob, OfJobDebugger}
-use Rattle.record_exception.specs.declared.Place.the-variants.{Exiting}
-use Rattle.record_exception.specs.Channel.{isBound, tried}
-use Rattle.record_exception.specs.Exception.{levelOf}
+use Rattle.record_exception.specs.Channel.{isBound}
 use Rattle.record_job.specs.declared.Parent.{Parent}
 use Rattle.record_job.specs.declared.Parent.the-variants.{Orphan, ChildOf}
 use Rattle.record_job.specs.declared.Job.{Job}
 use Rattle.records.specs.declared.tables.Tables.{Tables}
 use Rattle.records.specs.Tables.{jobAt}
-use Rattle.owners.specs.Owners.{putLevel}
-use Rattle.model.specs.declared.Route.the-variants.{NoType}
 use Rattle.model.specs.declared.Handler.the-variants.{HandlerAt}
 use Rattle.model.specs.declared.Search.{Search}
 use Rattle.model.specs.Job.{onParent}
-use Rattle.model.specs.Exception.{isHardware, routeOf, ownerOf, levelAt, putLevelAt, passOver}
-use Rattle.model.specs.Exception.{noHandler, tryAt, searchUp}
-
--- ---- Routes --------------------------------------------------------------------------------
-
-pub no-type : (k : ℕ) → k ≢ 0x008 → k ≢ 0x108 → k ≢ 0x208 → k ≢ 0x308 → k ≢ 0x408 → k ≢ 0x508 →
-    k ≢ 0x8000 → k ≢ 0x8208 → k ≢ 0x8308 → k ≢ 0x8008 → k ≢ 0x8108 → NoType ≡ routeOf k
-unfolding routeOf isHardware
-no-type k a b c d e f g h i j l =
-    second _ _
-    (sym (or-goes _ (ne-eqb _ _ a) (or-goes _ (ne-eqb _ _ b) (or-goes _ (ne-eqb _ _ c)
-    (or-goes _ (ne-eqb _ _ d) (or-goes _ (ne-eqb _ _ e) (sym (ne-eqb _ _ f))))))))
-    (second _ _ (sym (or-goes _ (ne-eqb _ _ g) (sym (ne-eqb _ _ h))))
-    (second _ _ (ne-eqb _ _ i) (second _ _ (ne-eqb _ _ j) (second _ _ (ne-eqb _ _ l) refl))))
+use Rattle.model.specs.Exception.{levelAt, passOver, noHandler, tryAt, searchUp}
 
 -- ---- A place -------------------------------------------------------------------------------
-
--- the level of a place, by its number and its owner
-pub put-place : (t : Tables) (n : ℕ) (p : Place) (l : Level) →
-    putLevel t (levelOf p) (ownerOf t n p) l ≡ putLevelAt t n p l
-unfolding putLevel putLevelAt ownerOf if_then_else_
-put-place t n Debugger l = refl
-put-place t n OwnThread l = refl
-put-place t n OwnProcess l = refl
-put-place t n SecondChance l = refl
-put-place t n (OfJob j) l = refl
-put-place t n (OfJobDebugger j) l = refl
-put-place t n Exiting l = refl
 
 abbrev pub taken : Tables → Place → Search
 taken t p = record { tables = t; at = HandlerAt p }

@@ -5,3 +5,4 @@ pub mod Loops
 pub mod Signed
 pub mod Counts
 pub mod Within
+pub mod Named

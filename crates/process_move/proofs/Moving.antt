@@ -1,7 +1,7 @@
 -- How a `return` of a function over one process's record meets a call's definition, for the crates that have such calls.
---     same             a name in the table is its own place
---     kept, stays      the process stays
---     looked-up        the record as the tables have it
+--     same                     a name in the table is its own place
+--     kept, stays, stores      the process stays, or is stored where it was
+--     looked-up                the record as the tables have it
 -- Assumes nothing.
 use Prim.Native.Nat.{ℕ, _<_}
 use mathlib.Core.Path.{_≡_, ap, _∙_}
@@ -28,6 +28,11 @@ pub stays : {m : Move} (t : Tables) (p : ℕ) {q : Process} (c : ℤ) →
     m ≡ move q c → processAt t (slot p) ≡ q → moved t p m ≡ answered t c
 unfolding moved reply answered
 stays t p c e h = rw (e, kept t (slot p) h)
+
+pub stores : {m : Move} (t : Tables) (p : ℕ) (w : Process) (c : ℤ) →
+    m ≡ move w c → p < 64 → moved t p m ≡ answered (putProcess t p w) c
+unfolding moved reply answered
+stores t p w c e h = rw (e, same p h)
 
 pub looked-up : {g : FoundProcess} (t : Tables) (p : ℕ) {q : Process} →
     g ≡ foundIn q → p < 64 → processAt t (slot p) ≡ q → g ≡ foundProcess t p

@@ -58,7 +58,7 @@ fn tasks() -> Tables {
     t = process_calls::create_with_ext(t, 1, 1).tables;
     t = process_calls::create_with_ext(t, 1, 2).tables;
     t = process_calls::exit(t, 1, 7).tables;
-    t = process_calls::set_critical_at_job(t, 2, 0, 0).tables;
+    t = process_state_calls::set_critical_at_job(t, 2, 0, 0).tables;
     t = thread_calls::create_with_ext(t, 0, 0).tables;
     t = thread_calls::create_with_ext(t, 0, 1).tables;
     t = thread_calls::create_with_ext(t, 2, 2).tables;
@@ -94,11 +94,11 @@ fn policies(t: Tables) {
     show(0x0f, policy(t, 9, 0, 3, 1).answer);
     show(0x0f, policy(t, 1, 0, 3, 1).answer);
     show(0x0f, policy(t, 3, 0, 6, 1).answer);
-    show(0x11, process_calls::check_policy(t, 64, 15).answer);
-    show(0x11, process_calls::check_policy(t, 64, 4).answer);
-    show(0x11, process_calls::check_policy(t, 9, 4).answer);
-    show(0x11, process_calls::check_policy(t, 0, 6).answer);
-    show(0x11, process_calls::check_policy(t, 0, 4).answer);
+    show(0x11, process_state_calls::check_policy(t, 64, 15).answer);
+    show(0x11, process_state_calls::check_policy(t, 64, 4).answer);
+    show(0x11, process_state_calls::check_policy(t, 9, 4).answer);
+    show(0x11, process_state_calls::check_policy(t, 0, 6).answer);
+    show(0x11, process_state_calls::check_policy(t, 0, 4).answer);
 }
 
 fn processes(t: Tables) {
@@ -113,29 +113,47 @@ fn processes(t: Tables) {
     show(0x06, process_calls::kill(t, 9).answer);
     show(
         0x07,
-        process_calls::set_critical_at_job(t, 64, 32, 2).answer,
+        process_state_calls::set_critical_at_job(t, 64, 32, 2).answer,
     );
-    show(0x07, process_calls::set_critical_at_job(t, 64, 0, 1).answer);
-    show(0x07, process_calls::set_critical_at_job(t, 9, 32, 1).answer);
-    show(0x07, process_calls::set_critical_at_job(t, 9, 0, 1).answer);
-    show(0x07, process_calls::set_critical_at_job(t, 2, 9, 1).answer);
-    show(0x07, process_calls::set_critical_at_job(t, 2, 3, 1).answer);
-    show(0x07, process_calls::set_critical_at_job(t, 0, 3, 1).answer);
-    show(0x1c, process_calls::get_info(t, 64).answer);
-    show(0x1c, process_calls::get_info(t, 9).answer);
+    show(
+        0x07,
+        process_state_calls::set_critical_at_job(t, 64, 0, 1).answer,
+    );
+    show(
+        0x07,
+        process_state_calls::set_critical_at_job(t, 9, 32, 1).answer,
+    );
+    show(
+        0x07,
+        process_state_calls::set_critical_at_job(t, 9, 0, 1).answer,
+    );
+    show(
+        0x07,
+        process_state_calls::set_critical_at_job(t, 2, 9, 1).answer,
+    );
+    show(
+        0x07,
+        process_state_calls::set_critical_at_job(t, 2, 3, 1).answer,
+    );
+    show(
+        0x07,
+        process_state_calls::set_critical_at_job(t, 0, 3, 1).answer,
+    );
+    show(0x1c, process_state_calls::get_info(t, 64).answer);
+    show(0x1c, process_state_calls::get_info(t, 9).answer);
 }
 
 // Process 0 runs once thread 1 was started with it.
 fn starts(t: Tables) {
-    show(0x04, process_calls::start(t, 64, 0).answer);
-    show(0x04, process_calls::start(t, 0, 128).answer);
-    show(0x04, process_calls::start(t, 9, 9).answer);
-    show(0x04, process_calls::start(t, 0, 9).answer);
-    show(0x04, process_calls::start(t, 2, 1).answer);
-    show(0x04, process_calls::start(t, 2, 0).answer);
-    let running = process_calls::start(t, 0, 0).tables;
+    show(0x04, process_state_calls::start(t, 64, 0).answer);
+    show(0x04, process_state_calls::start(t, 0, 128).answer);
+    show(0x04, process_state_calls::start(t, 9, 9).answer);
+    show(0x04, process_state_calls::start(t, 0, 9).answer);
+    show(0x04, process_state_calls::start(t, 2, 1).answer);
+    show(0x04, process_state_calls::start(t, 2, 0).answer);
+    let running = process_state_calls::start(t, 0, 0).tables;
     let another = thread_calls::create_with_ext(running, 0, 9).tables;
-    show(0x04, process_calls::start(another, 0, 9).answer);
+    show(0x04, process_state_calls::start(another, 0, 9).answer);
     show(0x0c, process_calls::finish(t, 128).answer);
     show(0x0c, process_calls::finish(t, 9).answer);
     show(0x0c, process_calls::finish(t, 0).answer);
@@ -202,17 +220,17 @@ fn suspends(t: Tables) {
 
 // The levels of process 1 are shut; level 4 of job 1 is bound.
 fn levels(t: Tables) {
-    let bound = exception_calls::create_channel(t, 4, 1).tables;
-    show(0x12, exception_calls::create_channel(bound, 6, 128).answer);
-    show(0x12, exception_calls::create_channel(bound, 0, 128).answer);
-    show(0x12, exception_calls::create_channel(bound, 2, 128).answer);
-    show(0x12, exception_calls::create_channel(bound, 2, 9).answer);
-    show(0x12, exception_calls::create_channel(bound, 3, 1).answer);
-    show(0x12, exception_calls::create_channel(bound, 4, 1).answer);
-    show(0x13, exception_calls::hang_up(bound, 6, 128).answer);
-    show(0x13, exception_calls::hang_up(bound, 4, 32).answer);
-    show(0x13, exception_calls::hang_up(bound, 4, 9).answer);
-    show(0x13, exception_calls::hang_up(bound, 5, 1).answer);
+    let bound = channel_calls::create_channel(t, 4, 1).tables;
+    show(0x12, channel_calls::create_channel(bound, 6, 128).answer);
+    show(0x12, channel_calls::create_channel(bound, 0, 128).answer);
+    show(0x12, channel_calls::create_channel(bound, 2, 128).answer);
+    show(0x12, channel_calls::create_channel(bound, 2, 9).answer);
+    show(0x12, channel_calls::create_channel(bound, 3, 1).answer);
+    show(0x12, channel_calls::create_channel(bound, 4, 1).answer);
+    show(0x13, channel_calls::hang_up(bound, 6, 128).answer);
+    show(0x13, channel_calls::hang_up(bound, 4, 32).answer);
+    show(0x13, channel_calls::hang_up(bound, 4, 9).answer);
+    show(0x13, channel_calls::hang_up(bound, 5, 1).answer);
     show(
         0x14,
         exception_calls::handle_exception(t, 128, 0x8408).answer,
@@ -228,7 +246,7 @@ fn levels(t: Tables) {
 
 // Thread 1 waits in an exception at its own level.
 fn handlers(t: Tables) {
-    let bound = exception_calls::create_channel(t, 2, 1).tables;
+    let bound = channel_calls::create_channel(t, 2, 1).tables;
     let raised = exception_calls::handle_exception(bound, 1, 8).tables;
     show(0x16, exception_calls::set_state(raised, 128, 2).answer);
     show(0x16, exception_calls::set_state(raised, 9, 2).answer);

@@ -1,0 +1,124 @@
+// levels: the routes of an exception by type number, and the level and the owner of a place. Follows exception.rs.
+ghost use mathlib.Core.Path.{_≡_};
+ghost use Rattle.model.specs.Exception.{routeOf, isNoType, processOf, ownerOf, levelAt, passOver};
+ghost use Rattle.record_exception.specs.declared.Place as Place;
+use model::Route;
+use record_exception::Level;
+use record_exception::Place;
+use records::tables::Tables;
+
+// The route of an exception type: one of the eleven, or none.
+pub fn route_of(kind: u16) -> Route
+    ensures { λ r. ⌜ r ≡ routeOf kind ⌝ }
+{
+    match kind {
+        0x0008 => Route::Ordinary,
+        0x0108 => Route::Ordinary,
+        0x0208 => Route::Ordinary,
+        0x0308 => Route::Ordinary,
+        0x0408 => Route::Ordinary,
+        0x0508 => Route::Ordinary,
+        0x8000 => Route::Ordinary,
+        0x8208 => Route::Ordinary,
+        0x8308 => Route::JobDebuggers,
+        0x8008 => Route::DebuggerOnly,
+        0x8108 => Route::ToExiting,
+        _ => Route::NoType,
+    }
+}
+
+// Not one of the eleven types.
+pub fn is_no_type(route: Route) -> bool
+    ensures { λ r. ⌜ r ≡ isNoType route ⌝ }
+{
+    match route {
+        Route::Ordinary => false,
+        Route::JobDebuggers => false,
+        Route::DebuggerOnly => false,
+        Route::ToExiting => false,
+        Route::NoType => true,
+    }
+}
+
+// The process of a thread.
+pub fn process_of(t: Tables, thread: u8) -> u8
+    ensures { λ r. ⌜ r ≡ processOf t thread ⌝ }
+{
+    t.thread_at(thread).process
+}
+
+// The job, the process or the thread that has the level of a place.
+pub fn owner_of(t: Tables, thread: u8, place: Place) -> u8
+    ensures { λ r. ⌜ r ≡ ownerOf t thread place ⌝ }
+{
+    match place {
+        Place::Debugger => process_of(t, thread),
+        Place::OwnThread => thread,
+        Place::OwnProcess => process_of(t, thread),
+        Place::SecondChance => process_of(t, thread),
+        Place::OfJob(j) => j,
+        Place::OfJobDebugger(j) => j,
+        Place::Exiting => process_of(t, thread),
+    }
+}
+
+// Level 1 of the thread's process.
+fn level1_of(t: Tables, thread: u8) -> Level
+    ensures { λ r. ⌜ r ≡ levelAt t thread Place.Debugger ⌝ }
+{
+    let q = t.process_at(process_of(t, thread));
+    q.level1
+}
+
+// Level 3 of the thread's process.
+fn level3_of(t: Tables, thread: u8) -> Level
+    ensures { λ r. ⌜ r ≡ levelAt t thread Place.OwnProcess ⌝ }
+{
+    let q = t.process_at(process_of(t, thread));
+    q.level3
+}
+
+fn level2_of(t: Tables, thread: u8) -> Level
+    ensures { λ r. ⌜ r ≡ levelAt t thread Place.OwnThread ⌝ }
+{
+    let v = t.thread_at(thread);
+    v.level2
+}
+
+fn level4_of(t: Tables, thread: u8, job: u8) -> Level
+    ensures { λ r. ⌜ r ≡ levelAt t thread (Place.OfJob job) ⌝ }
+{
+    let v = t.job_at(job);
+    v.level4
+}
+
+fn level5_of(t: Tables, thread: u8, job: u8) -> Level
+    ensures { λ r. ⌜ r ≡ levelAt t thread (Place.OfJobDebugger job) ⌝ }
+{
+    let v = t.job_at(job);
+    v.level5
+}
+
+// The level at a place.
+pub fn level_at(t: Tables, thread: u8, place: Place) -> Level
+    ensures { λ r. ⌜ r ≡ levelAt t thread place ⌝ }
+{
+    match place {
+        Place::Debugger => level1_of(t, thread),
+        Place::OwnThread => level2_of(t, thread),
+        Place::OwnProcess => level3_of(t, thread),
+        Place::SecondChance => level1_of(t, thread),
+        Place::OfJob(j) => level4_of(t, thread, j),
+        Place::OfJobDebugger(j) => level5_of(t, thread, j),
+        Place::Exiting => level1_of(t, thread),
+    }
+}
+
+// The tables after an exception was tried at a place and not taken: a hung-up level is unbound.
+pub fn pass_over(t: Tables, thread: u8, place: Place) -> Tables
+    ensures { λ r. ⌜ r ≡ passOver t thread place ⌝ }
+{
+    let level = level_at(t, thread, place).tried();
+    let owner = owner_of(t, thread, place);
+    owners::with_level(t, place.level(), owner, level)
+}
