@@ -2,27 +2,32 @@
 --     left-open             nothing is said of a call that is left open
 --     creates, ..           the call on the way that the code takes
 -- Assumes nothing.
-use Prim.Native.Nat.{ℕ, _%_, _<_}
+use Prim.Native.Nat.{ℕ, _%_, _≤_, _<_}
 use native.Mathlib.Omega.{arith}
-use mathlib.Core.Path.{_≡_, sym, ap, _∙_}
-use mathlib.Core.Bool.{true, false}
+use mathlib.Core.Path.{_≡_, refl, sym, ap, _∙_}
+use mathlib.Core.Bool.{Bool, true, false}
 use lib.IntN.{pos}
-use Rattle.laws.specs.Choice.{if_then_else_}
+use Rattle.laws.specs.Choice.{_=?_, if_then_else_}
 use Rattle.laws.proofs.Cases.{no-both}
+use Rattle.error.specs.Numbers.{INVALID-ARGS}
 use Rattle.job_policy.specs.Policy.{merge}
 use Rattle.record_job.specs.declared.Job.{Job}
 use Rattle.record_process.specs.declared.Process.{Process}
-use Rattle.record_process.specs.Process.{newProcess}
+use Rattle.record_process.specs.Process.{newProcess, isCritical, bindTo}
 use Rattle.records.specs.declared.tables.Tables.{Tables}
 use Rattle.records.specs.declared.tables.FoundJob.the-variants.{OldJob}
+use Rattle.records.specs.declared.tables.FoundProcess.the-variants.{OldProcess}
+use Rattle.records.specs.declared.reply.Reply.{Reply}
 use Rattle.records.specs.Reply.{answered}
-use Rattle.records.specs.Tables.{jobAt, processAt, foundJob, putFixed, putProcess}
+use Rattle.records.specs.Tables.{jobAt, processAt, foundJob, foundProcess, putProcess}
+use Rattle.model.specs.Job.{atOrAbove}
 use Rattle.model.specs.JobPolicy.{policyOf}
-use Rattle.model.specs.JobCalls.{withNewProcess, createProcess}
+use Rattle.model.specs.JobCalls.{withNewProcess, createProcess, setCriticalAtJob}
 use Rattle.model.proofs.Answering.{answering}
 use Rattle.change.specs.declared.Change.{Change}
 use Rattle.change.specs.Change as defs
 use Rattle.change.proofs.Storing as storing
+use Rattle.process_changes.specs.Above.{SaysAbove}
 
 -- ---- A call left open ------------------------------------------------------------------------
 
@@ -35,6 +40,10 @@ left-open t j p n k e h = no-both h (ap (λ (x : Change). x .whole) e)
 old-job : (t : Tables) (j : ℕ) → jobAt t j .made ≡ true → foundJob t j ≡ OldJob (jobAt t j)
 unfolding foundJob if_then_else_
 old-job t j e = rw e
+
+old-process : (t : Tables) (p : ℕ) → processAt t p .made ≡ true → foundProcess t p ≡ OldProcess (processAt t p)
+unfolding foundProcess if_then_else_
+old-process t p e = rw e
 
 -- ---- A new process ---------------------------------------------------------------------------
 
@@ -57,3 +66,36 @@ creates t j p {c} e a b m n k x =
     let s = rw (here, own, inherited) at (storing.stores-new-process t j p 0 0 e _ _ _ x) in
     s ∙ accepted t j p a b (ap (λ (v : Job). v .made) (sym job) ∙ m)
     (ap (λ (v : Process). v .made) (sym process) ∙ n) (ap (λ (v : Job). v .killed) (sym job) ∙ k)
+
+-- ---- A binding -------------------------------------------------------------------------------
+
+module _ (t : Tables) (p j f : ℕ) (a : f ≤ 1) (b : p < 64) (d : j < 32) (m : processAt t p .made ≡ true)
+    (n : jobAt t j .made ≡ true) (u : isCritical (processAt t p .critical) ≡ false) {x : Reply} where
+  not-above : atOrAbove t j (processAt t p .job) ≡ false → x ≡ answered t INVALID-ARGS → x ≡ setCriticalAtJob t p j f
+  unfolding setCriticalAtJob
+  not-above h e = let g = old-process t p m in let v = old-job t j n in search answering depth 20
+
+  above : atOrAbove t j (processAt t p .job) ≡ true →
+      x ≡ answered (putProcess t p (bindTo (processAt t p) j (f =? 1))) (pos 0) → x ≡ setCriticalAtJob t p j f
+  unfolding setCriticalAtJob
+  above h e = let g = old-process t p m in let v = old-job t j n in search answering depth 20
+
+module _ (t : Tables) (p j f : ℕ) {c : Change} (e : c ≡ defs.unchanged t j p 0 0) (a : f ≤ 1) (b : p < 64) (d : j < 32)
+    (m : c .process .made ≡ true) (n : c .job .made ≡ true) (u : isCritical (c .process .critical) ≡ false) {z : Bool}
+    (s : SaysAbove (t .jobs) j (c .process .job) z) where
+  pub denies : {r : Change} → z ≡ false → r ≡ defs.answered c INVALID-ARGS → defs.stored t r ≡ setCriticalAtJob t p j f
+  denies h x =
+      let job = storing.job-read t j p 0 0 e d in
+      let process = storing.process-read t j p 0 0 e b in
+      not-above t p j f a b d (rw process at m) (rw job at n) (rw process at u)
+      (rw process at (sym (s t refl) ∙ h)) (storing.stays t j p 0 0 e _ x)
+
+  pub binds : {r : Change} → z ≡ true →
+      r ≡ defs.answered (defs.withProcess c (bindTo (c .process) j (f =? 1))) (pos 0) →
+      defs.stored t r ≡ setCriticalAtJob t p j f
+  binds h x =
+      let job = storing.job-read t j p 0 0 e d in
+      let process = storing.process-read t j p 0 0 e b in
+      let here : p % 64 ≡ p = omega arith in
+      above t p j f a b d (rw process at m) (rw job at n) (rw process at u) (rw process at (sym (s t refl) ∙ h))
+      (rw (here, process) at (storing.stores-process t j p 0 0 e _ _ x))

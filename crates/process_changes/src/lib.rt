@@ -3,6 +3,7 @@
 ghost use Rattle.model.specs.JobCalls.{createProcess, exitProcessCall, setCriticalAtJob};
 ghost use Rattle.model.specs.ThreadCalls.{finishThreadCall};
 ghost use Rattle.change.specs.Change.{Comes};
+ghost use Rattle.process_changes.specs.Above.{SaysAbove};
 use change::Change;
 use change::unchanged;
 use error::ZxError;
@@ -40,3 +41,54 @@ pub fn create_with_ext(t: Tables, job: u8, new: u8) -> Change
     c.with_process(Process::new(job)).with_fixed(policy).answered(0)
 }
 
+// Whether job j is job i or an ancestor of it.
+fn at_or_above(jobs: [Job; 32], j: u8, i: u8) -> bool
+    ensures { λ r. ⌜ SaysAbove jobs j i r ⌝ }
+{
+    let mut at = i;
+    for step in 0..32u8 {
+        if at == j {
+            return true;
+        }
+        let job = lists::job_in(jobs, at);
+        let parent = job.parent;
+        let Parent::ChildOf(p) = parent else {
+            return false;
+        };
+        at = p;
+    }
+    false
+}
+
+// 07: `Process::set_critical_at_job`.
+pub fn set_critical_at_job(t: Tables, process: u8, job: u8, flag: u8) -> Change
+    ensures { λ r. ⌜ Comes t (setCriticalAtJob t process job flag) r ⌝ }
+{
+    let c = unchanged(t, job, process, 0, 0);
+    let jobs = t.jobs;
+    if 1 < flag {
+        return c;
+    }
+    if 64 <= process {
+        return c;
+    }
+    if 32 <= job {
+        return c;
+    }
+    let q = c.process;
+    if !q.made {
+        return c;
+    }
+    let v = c.job;
+    if !v.made {
+        return c;
+    }
+    let critical = q.critical;
+    if critical.is_bound() {
+        return c;
+    }
+    if !at_or_above(jobs, job, q.job) {
+        return c.answered(ZxError::INVALID_ARGS);
+    }
+    c.with_process(q.bind_to(job, flag == 1)).answered(0)
+}
