@@ -7,23 +7,32 @@ use native.Mathlib.Omega.{arith}
 use mathlib.Core.Path.{_≡_, refl, sym, ap, _∙_}
 use mathlib.Core.Bool.{Bool, true, false}
 use lib.IntN.{pos}
+use lib.ListN.{set}
 use Rattle.laws.specs.Choice.{_=?_, if_then_else_}
+use Rattle.laws.specs.Lists.{any}
 use Rattle.laws.proofs.Cases.{no-both}
 use Rattle.error.specs.Numbers.{INVALID-ARGS}
 use Rattle.job_policy.specs.Policy.{merge}
 use Rattle.record_job.specs.declared.Job.{Job}
 use Rattle.record_process.specs.declared.Process.{Process}
 use Rattle.record_process.specs.Process.{newProcess, isCritical, bindTo}
+use Rattle.record_thread.specs.declared.Thread.{Thread}
+use Rattle.record_thread.specs.Thread.{isFree, finish, threadOf}
 use Rattle.records.specs.declared.tables.Tables.{Tables}
 use Rattle.records.specs.declared.tables.FoundJob.the-variants.{OldJob}
 use Rattle.records.specs.declared.tables.FoundProcess.the-variants.{OldProcess}
+use Rattle.records.specs.declared.tables.FoundThread.the-variants.{OldThread}
+use Rattle.records.specs.declared.reply.Fields.the-variants.{NoFields}
 use Rattle.records.specs.declared.reply.Reply.{Reply}
-use Rattle.records.specs.Reply.{answered}
-use Rattle.records.specs.Tables.{jobAt, processAt, foundJob, foundProcess, putProcess}
-use Rattle.model.specs.Job.{atOrAbove}
+use Rattle.records.specs.Reply.{reply, answered}
+use Rattle.records.specs.Tables.{jobAt, processAt, threadAt, foundJob, foundProcess, foundThread, putProcess}
+use Rattle.records.specs.Tables.{putThread}
+use Rattle.model.specs.Job.{atOrAbove, listsThread, finishThread}
 use Rattle.model.specs.JobPolicy.{policyOf}
 use Rattle.model.specs.JobCalls.{withNewProcess, createProcess, setCriticalAtJob}
+use Rattle.model.specs.ThreadCalls.{finishThreadCall}
 use Rattle.model.proofs.Answering.{answering}
+use Rattle.model.proofs.Upward.{finish-rests}
 use Rattle.change.specs.declared.Change.{Change}
 use Rattle.change.specs.Change as defs
 use Rattle.change.proofs.Storing as storing
@@ -44,6 +53,10 @@ old-job t j e = rw e
 old-process : (t : Tables) (p : ℕ) → processAt t p .made ≡ true → foundProcess t p ≡ OldProcess (processAt t p)
 unfolding foundProcess if_then_else_
 old-process t p e = rw e
+
+old-thread : (t : Tables) (n : ℕ) → threadAt t n .made ≡ true → foundThread t n ≡ OldThread (threadAt t n)
+unfolding foundThread if_then_else_
+old-thread t n e = rw e
 
 -- ---- A new process ---------------------------------------------------------------------------
 
@@ -99,3 +112,27 @@ module _ (t : Tables) (p j f : ℕ) {c : Change} (e : c ≡ defs.unchanged t j p
       let here : p % 64 ≡ p = omega arith in
       above t p j f a b d (rw process at m) (rw job at n) (rw process at u) (rw process at (sym (s t refl) ∙ h))
       (rw (here, process) at (storing.stores-process t j p 0 0 e _ _ x))
+
+-- ---- A thread that is not the last -----------------------------------------------------------
+
+leaves : (t : Tables) (n : ℕ) {x : Reply} → n < 128 → threadAt t n .made ≡ true → isFree (threadAt t n) ≡ true →
+    x ≡ answered (finishThread t n) (pos 0) → x ≡ finishThreadCall t n
+unfolding finishThreadCall
+leaves t n a m f e = let g = old-thread t n m in search answering depth 20
+
+lists-more : (t : Tables) (n p : ℕ) (v : Thread) → any (λ w. threadOf w p) (set (t .threads) n v) ≡ true →
+    listsThread (putThread t n v) p ≡ true
+unfolding listsThread putThread
+lists-more t n p v h = h
+
+pub finishes : (t : Tables) (n : ℕ) {c r : Change} → c ≡ defs.unchanged t 0 0 n 0 → n < 128 →
+    c .thread .made ≡ true → isFree (c .thread) ≡ true →
+    any (λ v. threadOf v (c .thread .process)) (set (t .threads) n (finish (c .thread))) ≡ true →
+    r ≡ defs.answered (defs.withThread c (finish (c .thread))) (pos 0) → defs.stored t r ≡ finishThreadCall t n
+unfolding reply answered
+finishes t n {c} e a m f l x =
+    let thread = storing.thread-read t 0 0 n 0 e a in
+    let here : n % 128 ≡ n = omega arith in
+    let w = finish-rests t n (c .thread) _ _ thread refl refl (lists-more t n _ _ l) in
+    leaves t n a (rw thread at m) (rw thread at f)
+    (rw (here, w) at (storing.stores-thread t 0 0 n 0 e _ _ _ x))

@@ -92,3 +92,27 @@ pub fn set_critical_at_job(t: Tables, process: u8, job: u8, flag: u8) -> Change
     }
     c.with_process(q.bind_to(job, flag == 1)).answered(0)
 }
+
+// 0c: `CurrentThread` dropped, while its process lists another thread.
+pub fn finish(t: Tables, thread: u8) -> Change
+    ensures { λ r. ⌜ Comes t (finishThreadCall t thread) r ⌝ }
+{
+    let c = unchanged(t, 0, 0, thread, 0);
+    let threads = t.threads;
+    if 128 <= thread {
+        return c;
+    }
+    let v = c.thread;
+    if !v.made {
+        return c;
+    }
+    if !v.is_free() {
+        return c;
+    }
+    let w = v.finish();
+    let left = lists::with_thread(threads, thread, w);
+    if !lists::lists_thread(left, v.process) {
+        return c;
+    }
+    c.with_thread(w).answered(0)
+}
