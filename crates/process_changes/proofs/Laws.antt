@@ -6,16 +6,22 @@ use Prim.Native.Nat.{ℕ, _%_, _≤_, _<_}
 use native.Mathlib.Omega.{arith}
 use mathlib.Core.Path.{_≡_, refl, sym, ap, _∙_}
 use mathlib.Core.Bool.{Bool, true, false}
-use lib.IntN.{pos}
-use lib.ListN.{set}
+use lib.IntN.{ℤ, pos}
+use lib.ListN.{getD, set}
+use lib.Seq.{set-set}
 use Rattle.laws.specs.Choice.{_=?_, if_then_else_}
 use Rattle.laws.specs.Lists.{any}
 use Rattle.laws.proofs.Cases.{no-both}
+use Rattle.laws.proofs.Flow.{and-stops}
 use Rattle.error.specs.Numbers.{INVALID-ARGS}
 use Rattle.job_policy.specs.Policy.{merge}
 use Rattle.record_job.specs.declared.Job.{Job}
+use Rattle.record_job.specs.Job.{noJob}
 use Rattle.record_process.specs.declared.Process.{Process}
-use Rattle.record_process.specs.Process.{newProcess, isCritical, bindTo}
+use Rattle.record_process.specs.declared.Status.the-variants.{Exited}
+use Rattle.record_process.specs.declared.Critical.{Critical}
+use Rattle.record_process.specs.declared.Critical.the-variants.{Free, To}
+use Rattle.record_process.specs.Process.{newProcess, isExited, isCritical, withStatus, ended, bindTo}
 use Rattle.record_thread.specs.declared.Thread.{Thread}
 use Rattle.record_thread.specs.Thread.{isFree, finish, threadOf}
 use Rattle.records.specs.declared.tables.Tables.{Tables}
@@ -26,13 +32,17 @@ use Rattle.records.specs.declared.reply.Fields.the-variants.{NoFields}
 use Rattle.records.specs.declared.reply.Reply.{Reply}
 use Rattle.records.specs.Reply.{reply, answered}
 use Rattle.records.specs.Tables.{jobAt, processAt, threadAt, foundJob, foundProcess, foundThread, putProcess}
-use Rattle.records.specs.Tables.{putThread}
-use Rattle.model.specs.Job.{atOrAbove, listsThread, finishThread}
+use Rattle.records.specs.Tables.{putThread, withProcesses}
+use Rattle.model.specs.Job.{atOrAbove, mayTerminate, listsThread, unlistProcess, endProcess, exitProcess}
+use Rattle.model.specs.Job.{finishThread}
 use Rattle.model.specs.JobPolicy.{policyOf}
-use Rattle.model.specs.JobCalls.{withNewProcess, createProcess, setCriticalAtJob}
+use Rattle.model.specs.JobCalls.{withNewProcess, createProcess, setCriticalAtJob, exitProcessCall}
 use Rattle.model.specs.ThreadCalls.{finishThreadCall}
 use Rattle.model.proofs.Answering.{answering}
-use Rattle.model.proofs.Upward.{finish-rests}
+use Rattle.model.proofs.Live.{live-process}
+use Rattle.model.proofs.TaskTables.{putProcess-made}
+use Rattle.model.proofs.Steps.{Exiting, exit-ends, end-free}
+use Rattle.model.proofs.Upward.{unlist-stays, finish-rests}
 use Rattle.change.specs.declared.Change.{Change}
 use Rattle.change.specs.Change as defs
 use Rattle.change.proofs.Storing as storing
@@ -136,3 +146,53 @@ finishes t n {c} e a m f l x =
     let w = finish-rests t n (c .thread) _ _ thread refl refl (lists-more t n _ _ l) in
     leaves t n a (rw thread at m) (rw thread at f)
     (rw (here, w) at (storing.stores-thread t 0 0 n 0 e _ _ _ x))
+
+-- ---- A process that lists no thread ----------------------------------------------------------
+
+unbound : (b : Critical) → isCritical b ≡ false → b ≡ Free
+unbound Free e = refl
+unbound (To j nonzero) e = no-both refl e
+
+twice : (t : Tables) (p : ℕ) (a b : Process) → putProcess (putProcess t p a) p b ≡ putProcess t p b
+unfolding putProcess
+twice t p a b = ap (withProcesses t) (set-set (t .processes) p a b)
+
+lists-same : (t : Tables) (p i : ℕ) (v : Process) → listsThread (putProcess t i v) p ≡ listsThread t p
+unfolding listsThread putProcess
+lists-same t p i v = refl
+
+lives-on : (t : Tables) (j p i : ℕ) (a b : Process) → jobAt t j .killed ≡ false →
+    mayTerminate (putProcess (putProcess t p a) i b) j ≡ false
+unfolding mayTerminate jobAt putProcess
+lives-on t j p i a b k = sym (and-stops _ k)
+
+-- s is the process as it exits; u has s, and w has it ended
+ends-at-once : (t : Tables) (p : ℕ) (code : ℤ) → processAt t p .made ≡ true → isExited (processAt t p .status) ≡ false →
+    isCritical (processAt t p .critical) ≡ false → jobAt t (processAt t p .job) .killed ≡ false →
+    listsThread t p ≡ false → putProcess t p (ended (withStatus (processAt t p) (Exited code))) ≡ exitProcess t p code
+ends-at-once t p code m x f k l =
+    let s : Process = withStatus (processAt t p) (Exited code) in
+    let u : Tables = putProcess t p s in
+    let w : Tables = putProcess u p (ended s) in
+    let live : Exiting t p code u = record { live = live-process (processAt t p) m x; after = refl } in
+    let read = sym (putProcess-made t p s m) in
+    let off = unlist-stays u p s (ended s) w read refl refl (lives-on t _ p p s (ended s) k) in
+    sym (twice t p s (ended s)) ∙ end-free u p s w read off (unbound _ f)
+    ∙ exit-ends t p code u live (lists-same t p p s ∙ l)
+
+exited : (t : Tables) (p : ℕ) (code : ℤ) {x : Reply} → p < 64 → processAt t p .made ≡ true →
+    x ≡ answered (exitProcess t p code) (pos 0) → x ≡ exitProcessCall t p code
+unfolding exitProcessCall
+exited t p code a m e = let g = old-process t p m in search answering depth 20
+
+pub exits : (t : Tables) (p : ℕ) (code : ℤ) {c r : Change} → c ≡ defs.unchanged t 0 p 0 0 → p < 64 →
+    c .process .made ≡ true → isExited (c .process .status) ≡ false → isCritical (c .process .critical) ≡ false →
+    getD (t .jobs) (c .process .job) noJob .killed ≡ false → any (λ v. threadOf v p) (t .threads) ≡ false →
+    r ≡ defs.answered (defs.withProcess c (ended (withStatus (c .process) (Exited code)))) (pos 0) →
+    defs.stored t r ≡ exitProcessCall t p code
+unfolding jobAt listsThread
+exits t p code e a m x f k l y =
+    let process = storing.process-read t 0 p 0 0 e a in
+    let here : p % 64 ≡ p = omega arith in
+    let o = ends-at-once t p code (rw process at m) (rw process at x) (rw process at f) (rw process at k) l in
+    exited t p code a (rw process at m) (rw (here, process, o) at (storing.stores-process t 0 p 0 0 e _ _ y))

@@ -41,6 +41,37 @@ pub fn create_with_ext(t: Tables, job: u8, new: u8) -> Change
     c.with_process(Process::new(job)).with_fixed(policy).answered(0)
 }
 
+// 05, 06: `Process::exit`, on a process that lists no thread and is bound to no job, in a job that lives on: it ends at once.
+pub fn exit(t: Tables, process: u8, code: i64) -> Change
+    ensures { λ r. ⌜ Comes t (exitProcessCall t process code) r ⌝ }
+{
+    let c = unchanged(t, 0, process, 0, 0);
+    let jobs = t.jobs;
+    let threads = t.threads;
+    if 64 <= process {
+        return c;
+    }
+    let q = c.process;
+    if !q.made {
+        return c;
+    }
+    let status = q.status;
+    if status.is_exited() {
+        return c;
+    }
+    let critical = q.critical;
+    if critical.is_bound() {
+        return c;
+    }
+    if lists::job_in(jobs, q.job).killed {
+        return c;
+    }
+    if lists::lists_thread(threads, process) {
+        return c;
+    }
+    c.with_process(q.with_status(Status::Exited(code)).ended()).answered(0)
+}
+
 // Whether job j is job i or an ancestor of it.
 fn at_or_above(jobs: [Job; 32], j: u8, i: u8) -> bool
     ensures { λ r. ⌜ SaysAbove jobs j i r ⌝ }
