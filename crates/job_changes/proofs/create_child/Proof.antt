@@ -1,0 +1,71 @@
+use borrow.Author.Needs.{needs}
+use borrow.Author.Tests.{not-true, not-false}
+use Rattle.job_changes.proofs.Laws.{past-job, past-name, unmade, used, killed-above, creates}
+use Rattle.job_changes.proofs.create_child.Statement.{statement}
+use Rattle.job_changes.proofs.create_child.Tie as tie
+
+pub create-child-spec : {M : Type 1} → statement M
+create-child-spec =
+    tie.close
+    (tie.spec
+    (λ c κs. search needs)
+    (λ c κs. search needs)
+    (λ c κs. search needs)
+    (λ c.
+    let i = c .before in
+    let n = i .before in
+    λ _. past-job _ _ _ (n .before .unchanged .ensures) (n .unchanged2 .ensures) (i .if1 .taken) (c .answered .ensures))
+    (λ c κs. search needs)
+    (λ c.
+    let i = c .before in
+    let a = i .before in
+    let n = a .before in
+    λ _. past-name _ _ _ (n .before .unchanged .ensures) (n .unchanged2 .ensures)
+    (a .if1 .left) (i .if2 .taken) (c .answered2 .ensures))
+    (λ c κs. search needs)
+    (λ c.
+    let i = c .before in
+    let b = i .before .before .before in
+    let a = b .before in
+    let n = a .before in
+    λ _. unmade _ _ _ (n .before .unchanged .ensures) (n .unchanged2 .ensures)
+    (a .if1 .left) (b .if2 .left) (not-true _ (i .if3 .taken)) (c .answered3 .ensures))
+    (λ c κs. search needs)
+    (λ c.
+    let i = c .before in
+    let m = i .before .before in
+    let b = m .before .before .before in
+    let a = b .before in
+    let n = a .before in
+    λ _. used _ _ _ (n .before .unchanged .ensures) (n .unchanged2 .ensures)
+    (a .if1 .left) (b .if2 .left) (not-false _ (m .if3 .left)) (i .if4 .taken) (c .answered4 .ensures))
+    (λ c κs. search needs)
+    (λ c.
+    let i = c .before in
+    let f = i .before in
+    let m = f .before .before in
+    let b = m .before .before .before in
+    let a = b .before in
+    let n = a .before in
+    λ _. killed-above _ _ _ (n .before .unchanged .ensures) (n .unchanged2 .ensures)
+    (a .if1 .left) (b .if2 .left) (not-false _ (m .if3 .left)) (f .if4 .left)
+    (i .if5 .taken) (c .answered5 .ensures))
+    (λ c κs. search needs)
+    (λ c κs. search needs)
+    (λ c κs. search needs)
+    (λ c κs. search needs)
+    (λ c κs. search needs)
+    (λ c.
+    let w = c .before .before in
+    let v = w .before in
+    let o = v .before in
+    let i = o .before .before .before in
+    let f = i .before in
+    let m = f .before .before in
+    let b = m .before .before .before in
+    let a = b .before in
+    let n = a .before in
+    let r = simp (c .before .with-inherited .ensures, w .with-job .ensures, v .new .ensures, o .merge .ensures)
+    at (c .answered6 .ensures) in
+    λ _. creates _ _ _ (n .before .unchanged .ensures) (n .unchanged2 .ensures)
+    (a .if1 .left) (b .if2 .left) (not-false _ (m .if3 .left)) (f .if4 .left) (i .if5 .left) r))

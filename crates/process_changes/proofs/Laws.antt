@@ -1,0 +1,198 @@
+-- How the end of a call meets its definition, where it changes one record.
+--     left-open             nothing is said of a call that is left open
+--     creates, ..           the call on the way that the code takes
+-- Assumes nothing.
+use Prim.Native.Nat.{ℕ, _%_, _≤_, _<_}
+use native.Mathlib.Omega.{arith}
+use mathlib.Core.Path.{_≡_, refl, sym, ap, _∙_}
+use mathlib.Core.Bool.{Bool, true, false}
+use lib.IntN.{ℤ, pos}
+use lib.ListN.{getD, set}
+use lib.Seq.{set-set}
+use Rattle.laws.specs.Choice.{_=?_, if_then_else_}
+use Rattle.laws.specs.Lists.{any}
+use Rattle.laws.proofs.Cases.{no-both}
+use Rattle.laws.proofs.Flow.{and-stops}
+use Rattle.error.specs.Numbers.{INVALID-ARGS}
+use Rattle.job_policy.specs.Policy.{merge}
+use Rattle.record_job.specs.declared.Job.{Job}
+use Rattle.record_job.specs.Job.{noJob}
+use Rattle.record_process.specs.declared.Process.{Process}
+use Rattle.record_process.specs.declared.Status.the-variants.{Exited}
+use Rattle.record_process.specs.declared.Critical.{Critical}
+use Rattle.record_process.specs.declared.Critical.the-variants.{Free, To}
+use Rattle.record_process.specs.Process.{newProcess, isExited, isCritical, withStatus, ended, bindTo}
+use Rattle.record_thread.specs.declared.Thread.{Thread}
+use Rattle.record_thread.specs.Thread.{isFree, finish, threadOf}
+use Rattle.records.specs.declared.tables.Tables.{Tables}
+use Rattle.records.specs.declared.tables.FoundJob.the-variants.{OldJob}
+use Rattle.records.specs.declared.tables.FoundProcess.the-variants.{OldProcess}
+use Rattle.records.specs.declared.tables.FoundThread.the-variants.{OldThread}
+use Rattle.records.specs.declared.reply.Fields.the-variants.{NoFields}
+use Rattle.records.specs.declared.reply.Reply.{Reply}
+use Rattle.records.specs.Reply.{reply, answered}
+use Rattle.records.specs.Tables.{jobAt, processAt, threadAt, foundJob, foundProcess, foundThread, putProcess}
+use Rattle.records.specs.Tables.{putThread, withProcesses}
+use Rattle.model.specs.Job.{atOrAbove, mayTerminate, listsThread, unlistProcess, endProcess, exitProcess}
+use Rattle.model.specs.Job.{finishThread}
+use Rattle.model.specs.JobPolicy.{policyOf}
+use Rattle.model.specs.JobCalls.{withNewProcess, createProcess, setCriticalAtJob, exitProcessCall}
+use Rattle.model.specs.ThreadCalls.{finishThreadCall}
+use Rattle.model.proofs.Answering.{answering}
+use Rattle.model.proofs.Live.{live-process}
+use Rattle.model.proofs.TaskTables.{putProcess-made}
+use Rattle.model.proofs.Steps.{Exiting, exit-ends, end-free}
+use Rattle.model.proofs.Upward.{unlist-stays, finish-rests}
+use Rattle.change.specs.declared.Change.{Change}
+use Rattle.change.specs.Change as defs
+use Rattle.change.proofs.Storing as storing
+use Rattle.process_changes.specs.Above.{SaysAbove}
+
+-- ---- A call left open ------------------------------------------------------------------------
+
+pub left-open : {A : Type 0} (t : Tables) (j p n k : ℕ) {c : Change} → c ≡ defs.unchanged t j p n k → c .whole ≡ true → A
+unfolding defs.unchanged
+left-open t j p n k e h = no-both h (ap (λ (x : Change). x .whole) e)
+
+-- ---- Records that are made -------------------------------------------------------------------
+
+old-job : (t : Tables) (j : ℕ) → jobAt t j .made ≡ true → foundJob t j ≡ OldJob (jobAt t j)
+unfolding foundJob if_then_else_
+old-job t j e = rw e
+
+old-process : (t : Tables) (p : ℕ) → processAt t p .made ≡ true → foundProcess t p ≡ OldProcess (processAt t p)
+unfolding foundProcess if_then_else_
+old-process t p e = rw e
+
+old-thread : (t : Tables) (n : ℕ) → threadAt t n .made ≡ true → foundThread t n ≡ OldThread (threadAt t n)
+unfolding foundThread if_then_else_
+old-thread t n e = rw e
+
+-- ---- A new process ---------------------------------------------------------------------------
+
+accepted : (t : Tables) (j p : ℕ) → j < 32 → p < 64 → jobAt t j .made ≡ true → processAt t p .made ≡ false →
+    jobAt t j .killed ≡ false → answered (withNewProcess t j p) (pos 0) ≡ createProcess t j p
+unfolding createProcess
+accepted t j p a b m n k = let g = old-job t j m in search answering depth 20
+
+pub creates : (t : Tables) (j p : ℕ) {c r : Change} (e : c ≡ defs.unchanged t j p 0 0) → j < 32 → p < 64 →
+    c .job .made ≡ true → c .process .made ≡ false → c .job .killed ≡ false →
+    r ≡ defs.answered (defs.withFixed (defs.withProcess c (newProcess j)) (merge (c .own) (c .inherited))) (pos 0) →
+    defs.stored t r ≡ createProcess t j p
+unfolding withNewProcess policyOf
+creates t j p {c} e a b m n k x =
+    let job = storing.job-read t j p 0 0 e a in
+    let process = storing.process-read t j p 0 0 e b in
+    let own = storing.own-read t j p 0 0 e a in
+    let inherited = storing.inherited-read t j p 0 0 e a in
+    let here : p % 64 ≡ p = omega arith in
+    let s = rw (here, own, inherited) at (storing.stores-new-process t j p 0 0 e _ _ _ x) in
+    s ∙ accepted t j p a b (ap (λ (v : Job). v .made) (sym job) ∙ m)
+    (ap (λ (v : Process). v .made) (sym process) ∙ n) (ap (λ (v : Job). v .killed) (sym job) ∙ k)
+
+-- ---- A binding -------------------------------------------------------------------------------
+
+module _ (t : Tables) (p j f : ℕ) (a : f ≤ 1) (b : p < 64) (d : j < 32) (m : processAt t p .made ≡ true)
+    (n : jobAt t j .made ≡ true) (u : isCritical (processAt t p .critical) ≡ false) {x : Reply} where
+  not-above : atOrAbove t j (processAt t p .job) ≡ false → x ≡ answered t INVALID-ARGS → x ≡ setCriticalAtJob t p j f
+  unfolding setCriticalAtJob
+  not-above h e = let g = old-process t p m in let v = old-job t j n in search answering depth 20
+
+  above : atOrAbove t j (processAt t p .job) ≡ true →
+      x ≡ answered (putProcess t p (bindTo (processAt t p) j (f =? 1))) (pos 0) → x ≡ setCriticalAtJob t p j f
+  unfolding setCriticalAtJob
+  above h e = let g = old-process t p m in let v = old-job t j n in search answering depth 20
+
+module _ (t : Tables) (p j f : ℕ) {c : Change} (e : c ≡ defs.unchanged t j p 0 0) (a : f ≤ 1) (b : p < 64) (d : j < 32)
+    (m : c .process .made ≡ true) (n : c .job .made ≡ true) (u : isCritical (c .process .critical) ≡ false) {z : Bool}
+    (s : SaysAbove (t .jobs) j (c .process .job) z) where
+  pub denies : {r : Change} → z ≡ false → r ≡ defs.answered c INVALID-ARGS → defs.stored t r ≡ setCriticalAtJob t p j f
+  denies h x =
+      let job = storing.job-read t j p 0 0 e d in
+      let process = storing.process-read t j p 0 0 e b in
+      not-above t p j f a b d (rw process at m) (rw job at n) (rw process at u)
+      (rw process at (sym (s t refl) ∙ h)) (storing.stays t j p 0 0 e _ x)
+
+  pub binds : {r : Change} → z ≡ true →
+      r ≡ defs.answered (defs.withProcess c (bindTo (c .process) j (f =? 1))) (pos 0) →
+      defs.stored t r ≡ setCriticalAtJob t p j f
+  binds h x =
+      let job = storing.job-read t j p 0 0 e d in
+      let process = storing.process-read t j p 0 0 e b in
+      let here : p % 64 ≡ p = omega arith in
+      above t p j f a b d (rw process at m) (rw job at n) (rw process at u) (rw process at (sym (s t refl) ∙ h))
+      (rw (here, process) at (storing.stores-process t j p 0 0 e _ _ x))
+
+-- ---- A thread that is not the last -----------------------------------------------------------
+
+leaves : (t : Tables) (n : ℕ) {x : Reply} → n < 128 → threadAt t n .made ≡ true → isFree (threadAt t n) ≡ true →
+    x ≡ answered (finishThread t n) (pos 0) → x ≡ finishThreadCall t n
+unfolding finishThreadCall
+leaves t n a m f e = let g = old-thread t n m in search answering depth 20
+
+lists-more : (t : Tables) (n p : ℕ) (v : Thread) → any (λ w. threadOf w p) (set (t .threads) n v) ≡ true →
+    listsThread (putThread t n v) p ≡ true
+unfolding listsThread putThread
+lists-more t n p v h = h
+
+pub finishes : (t : Tables) (n : ℕ) {c r : Change} → c ≡ defs.unchanged t 0 0 n 0 → n < 128 →
+    c .thread .made ≡ true → isFree (c .thread) ≡ true →
+    any (λ v. threadOf v (c .thread .process)) (set (t .threads) n (finish (c .thread))) ≡ true →
+    r ≡ defs.answered (defs.withThread c (finish (c .thread))) (pos 0) → defs.stored t r ≡ finishThreadCall t n
+unfolding reply answered
+finishes t n {c} e a m f l x =
+    let thread = storing.thread-read t 0 0 n 0 e a in
+    let here : n % 128 ≡ n = omega arith in
+    let w = finish-rests t n (c .thread) _ _ thread refl refl (lists-more t n _ _ l) in
+    leaves t n a (rw thread at m) (rw thread at f)
+    (rw (here, w) at (storing.stores-thread t 0 0 n 0 e _ _ _ x))
+
+-- ---- A process that lists no thread ----------------------------------------------------------
+
+unbound : (b : Critical) → isCritical b ≡ false → b ≡ Free
+unbound Free e = refl
+unbound (To j nonzero) e = no-both refl e
+
+twice : (t : Tables) (p : ℕ) (a b : Process) → putProcess (putProcess t p a) p b ≡ putProcess t p b
+unfolding putProcess
+twice t p a b = ap (withProcesses t) (set-set (t .processes) p a b)
+
+lists-same : (t : Tables) (p i : ℕ) (v : Process) → listsThread (putProcess t i v) p ≡ listsThread t p
+unfolding listsThread putProcess
+lists-same t p i v = refl
+
+lives-on : (t : Tables) (j p i : ℕ) (a b : Process) → jobAt t j .killed ≡ false →
+    mayTerminate (putProcess (putProcess t p a) i b) j ≡ false
+unfolding mayTerminate jobAt putProcess
+lives-on t j p i a b k = sym (and-stops _ k)
+
+-- s is the process as it exits; u has s, and w has it ended
+ends-at-once : (t : Tables) (p : ℕ) (code : ℤ) → processAt t p .made ≡ true → isExited (processAt t p .status) ≡ false →
+    isCritical (processAt t p .critical) ≡ false → jobAt t (processAt t p .job) .killed ≡ false →
+    listsThread t p ≡ false → putProcess t p (ended (withStatus (processAt t p) (Exited code))) ≡ exitProcess t p code
+ends-at-once t p code m x f k l =
+    let s : Process = withStatus (processAt t p) (Exited code) in
+    let u : Tables = putProcess t p s in
+    let w : Tables = putProcess u p (ended s) in
+    let live : Exiting t p code u = record { live = live-process (processAt t p) m x; after = refl } in
+    let read = sym (putProcess-made t p s m) in
+    let off = unlist-stays u p s (ended s) w read refl refl (lives-on t _ p p s (ended s) k) in
+    sym (twice t p s (ended s)) ∙ end-free u p s w read off (unbound _ f)
+    ∙ exit-ends t p code u live (lists-same t p p s ∙ l)
+
+exited : (t : Tables) (p : ℕ) (code : ℤ) {x : Reply} → p < 64 → processAt t p .made ≡ true →
+    x ≡ answered (exitProcess t p code) (pos 0) → x ≡ exitProcessCall t p code
+unfolding exitProcessCall
+exited t p code a m e = let g = old-process t p m in search answering depth 20
+
+pub exits : (t : Tables) (p : ℕ) (code : ℤ) {c r : Change} → c ≡ defs.unchanged t 0 p 0 0 → p < 64 →
+    c .process .made ≡ true → isExited (c .process .status) ≡ false → isCritical (c .process .critical) ≡ false →
+    getD (t .jobs) (c .process .job) noJob .killed ≡ false → any (λ v. threadOf v p) (t .threads) ≡ false →
+    r ≡ defs.answered (defs.withProcess c (ended (withStatus (c .process) (Exited code)))) (pos 0) →
+    defs.stored t r ≡ exitProcessCall t p code
+unfolding jobAt listsThread
+exits t p code e a m x f k l y =
+    let process = storing.process-read t 0 p 0 0 e a in
+    let here : p % 64 ≡ p = omega arith in
+    let o = ends-at-once t p code (rw process at m) (rw process at x) (rw process at f) (rw process at k) l in
+    exited t p code a (rw process at m) (rw (here, process, o) at (storing.stores-process t 0 p 0 0 e _ _ y))

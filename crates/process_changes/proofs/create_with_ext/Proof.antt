@@ -1,0 +1,33 @@
+use borrow.Author.Needs.{needs}
+use borrow.Author.Tests.{not-false}
+use Rattle.process_changes.proofs.Laws.{left-open, creates}
+use Rattle.process_changes.proofs.create_with_ext.Statement.{statement}
+use Rattle.process_changes.proofs.create_with_ext.Tie as tie
+
+pub create-with-ext-spec : {M : Type 1} → statement M
+create-with-ext-spec =
+    tie.close
+    (tie.spec
+    (λ c κs. search needs)
+    (λ c. left-open _ _ _ _ _ (c .before .unchanged .ensures))
+    (λ c. left-open _ _ _ _ _ (c .before .before .unchanged .ensures))
+    (λ c. left-open _ _ _ _ _ (c .before .before .before .before .before .unchanged .ensures))
+    (λ c. left-open _ _ _ _ _ (c .before .before .before .before .before .before .before .unchanged .ensures))
+    (λ c. left-open _ _ _ _ _ (c .before .before .before .before .before .before .before .before .unchanged .ensures))
+    (λ c κs. search needs)
+    (λ c κs. search needs)
+    (λ c κs. search needs)
+    (λ c κs. search needs)
+    (λ c κs. search needs)
+    (λ c.
+    let p = c .before .before in
+    let n = p .before in
+    let m = n .before in
+    let k = m .before .before .before in
+    let made = k .before .before .before in
+    let in-job = made .before .before .before in
+    let u = in-job .before .before in
+    let r = simp (c .before .with-fixed .ensures, p .with-process .ensures, n .new .ensures, m .merge .ensures)
+    at (c .answered .ensures) in
+    λ _. creates _ _ _ (u .unchanged .ensures) (in-job .before .if1 .left) (in-job .if2 .left)
+    (not-false _ (made .if3 .left)) (k .before .if4 .left) (k .if5 .left) r))
