@@ -1,0 +1,265 @@
+-- How the records that were read decide a call on a token: a law for each way that the code ends.
+-- Assumes nothing.
+use Prim.Native.Nat.{ℕ, _<_, _≤_, _%_}
+use mathlib.Core.Path.{_≡_, refl, sym, ap, _∙_}
+use mathlib.Core.Logic.{_≢_}
+use mathlib.Core.Bool.{Bool, true, false, not}
+use native.Mathlib.Omega.{arith}
+use borrow.Author.Tests.{lt-leb, le-ltb, eq-eqb, ne-eqb}
+use lib.Dec.{eqb}
+use lib.IntN.{pos}
+use Rattle.laws.specs.Choice.{_=?_, if_then_else_}
+use Rattle.laws.specs.Guarded.{Guarded, _>>_, refuse_when_}
+use Rattle.laws.proofs.Flow.{passes}
+use Rattle.laws.proofs.Cases.{no-both, if-on}
+use Rattle.record_job.specs.declared.Job.{Job}
+use Rattle.record_process.specs.declared.Process.{Process}
+use Rattle.record_thread.specs.declared.Thread.{Thread}
+use Rattle.record_thread.specs.Thread.{FULL, suspend, resume}
+use Rattle.record_token.specs.declared.SuspendToken.{SuspendToken}
+use Rattle.record_token.specs.SuspendToken.{newToken, drop}
+use Rattle.records.specs.declared.tables.Tables.{Tables}
+use Rattle.records.specs.declared.tables.FoundJob.the-variants.{NoJob, OldJob}
+use Rattle.records.specs.declared.tables.FoundProcess.the-variants.{NoProcess, OldProcess}
+use Rattle.records.specs.declared.tables.FoundThread.the-variants.{NoThread, OldThread}
+use Rattle.records.specs.declared.tables.FoundToken.the-variants.{NoToken, OldToken}
+use Rattle.records.specs.declared.reply.Reply.{Reply}
+use Rattle.records.specs.Reply.{answered}
+use Rattle.records.specs.Tables.{jobAt, processAt, threadAt, tokenAt, putThread, putToken}
+use Rattle.records.specs.Tables.{foundJob, foundProcess, foundThread, foundToken}
+use Rattle.owners.specs.declared.FoundTask.{FoundTask}
+use Rattle.owners.specs.declared.FoundTask.the-variants.{NoTask, OldTask}
+use Rattle.owners.specs.Owners.{tasksOf, madeJob, madeProcess, madeThread, foundTask}
+use Rattle.model.specs.Replies.{call, accept}
+use Rattle.model.specs.SuspendToken.{someAt, changeTask, suspendTask, resumeTask, createToken}
+use Rattle.model.specs.SuspendToken.{dropToken}
+use Rattle.model.specs.ThreadCalls.{createTokenCall, dropTokenCall}
+use Rattle.model.proofs.Answering.{answering, refuses, accepts, the-task, the-token, no-token}
+use Rattle.model.proofs.Answering.{token-made, within-told}
+use Rattle.change.specs.declared.Change.{Change}
+use Rattle.change.specs.Change as defs
+use Rattle.change.proofs.Storing.{job-read, process-read, thread-read, token-read}
+use Rattle.token_changes.specs.TokenChanges.{taskMade}
+
+-- a return that leaves the call open says nothing of it
+pub nothing-said : {A : Type 0} {c : Change} (t : Tables) (j p n k : ℕ) →
+    c ≡ defs.unchanged t j p n k → c .whole ≡ true → A
+unfolding defs.unchanged
+nothing-said t j p n k e h = no-both h (ap (λ (x : Change). x .whole) e)
+
+denied : (b : Bool) → not b ≡ true → b ≡ false
+denied true e = no-both e refl
+denied false e = refl
+
+granted : (b : Bool) → not b ≡ false → b ≡ true
+granted true e = refl
+granted false e = no-both refl e
+
+-- ---- A task by its kind ----------------------------------------------------------------------
+
+-- within the names of its kind, within the table of threads
+pub within-tasks : (kind n : ℕ) {m : ℕ} → m ≡ tasksOf kind → n < m → n < 128
+unfolding tasksOf
+within-tasks kind n e h =
+    if-on (λ (x : ℕ). n < x → n < 128) (kind =? 0) 32 (if kind =? 1 then 64 else 128) (λ _ k. omega arith)
+    (λ _. if-on (λ (x : ℕ). n < x → n < 128) (kind =? 1) 64 128 (λ _ k. omega arith) (λ _ k. k))
+    (rw (← e) h)
+
+abbrev found-if : Bool → FoundTask
+found-if b = if b then OldTask else NoTask
+
+job-if : (b : Bool) (v : Job) → madeJob (if b then OldJob v else NoJob) ≡ found-if b
+unfolding madeJob if_then_else_
+job-if true v = refl
+job-if false v = refl
+
+process-if : (b : Bool) (v : Process) → madeProcess (if b then OldProcess v else NoProcess) ≡ found-if b
+unfolding madeProcess if_then_else_
+process-if true v = refl
+process-if false v = refl
+
+thread-if : (b : Bool) (v : Thread) → madeThread (if b then OldThread v else NoThread) ≡ found-if b
+unfolding madeThread if_then_else_
+thread-if true v = refl
+thread-if false v = refl
+
+module _ (t : Tables) (n new : ℕ) {c : Change} (e : c ≡ defs.unchanged t n n n new) where
+  task-if : (kind : ℕ) → n < tasksOf kind → foundTask t kind n ≡ found-if (taskMade c kind)
+  unfolding foundTask taskMade tasksOf foundJob foundProcess foundThread if_then_else_
+  task-if kind h = go (kind =? 0) (kind =? 1) h
+    where
+      go : (a b : Bool) → n < (if a then 32 else if b then 64 else 128) →
+          (if a then madeJob (foundJob t n) else
+          if b then madeProcess (foundProcess t n) else madeThread (foundThread t n))
+          ≡ found-if (if a then c .job .made else if b then c .process .made else c .thread .made)
+      go true b h = rw (job-read t n n n new e h) (job-if (jobAt t n .made) (jobAt t n))
+      go false true h = rw (process-read t n n n new e h) (process-if (processAt t n .made) (processAt t n))
+      go false false h = rw (thread-read t n n n new e h) (thread-if (threadAt t n .made) (threadAt t n))
+
+-- ---- 0d --------------------------------------------------------------------------------------
+
+-- x is what the change stands for, m what the code was told of the kind, b of the task
+abbrev Creates : Tables → ℕ → ℕ → ℕ → Reply → Type 0
+Creates t new kind n x = x ≡ createTokenCall t new kind n
+
+-- the thread suspended, and the token over it
+abbrev suspendedBy : Tables → ℕ → ℕ → ℕ → Thread → Tables
+suspendedBy t new kind n v = putToken (putThread t (n % 128) (suspend v)) (new % 64) (newToken kind n)
+
+unfoldable tokenGuards : Tables → ℕ → ℕ → ℕ → Guarded Reply
+tokenGuards t new kind n = do
+  refuse 102 when tokenAt t new .made
+  refuse 106 when kind =? 0
+  refuse 107 when someAt t kind n FULL
+  accept (createToken t new kind n)
+
+module _ (t : Tables) (new kind n : ℕ) where
+  pub bad-kind : {x : Reply} → x ≡ answered t (pos 104) → 2 < kind → Creates t new kind n x
+  unfolding createTokenCall
+  bad-kind s h = search answering
+
+  module _ (h : kind ≤ 2) where
+    pub past-tokens : {x : Reply} → x ≡ answered t (pos 101) → 64 ≤ new → Creates t new kind n x
+    unfolding createTokenCall
+    past-tokens s k = search answering
+
+    module _ (i : new < 64) {m : ℕ} (o : m ≡ tasksOf kind) where
+      pub past-tasks : {x : Reply} → x ≡ answered t (pos 101) → m ≤ n → Creates t new kind n x
+      unfolding createTokenCall
+      past-tasks s k = search answering
+
+      module _ (l : n < m) {c : Change} (e : c ≡ defs.unchanged t n n n new) {b : Bool}
+          (d : b ≡ taskMade c kind) where
+        task-told : {g : Bool} → b ≡ g → found-if g ≡ foundTask t kind n
+        task-told p =
+            let k : n < tasksOf kind = omega arith in
+            ap found-if (sym p ∙ d) ∙ sym (task-if t n new e kind k)
+
+        pub not-made : {x : Reply} → x ≡ answered t (pos 103) → not b ≡ true → Creates t new kind n x
+        unfolding createTokenCall if_then_else_
+        not-made s p =
+            let f : NoTask ≡ foundTask t kind n = task-told (denied b p) in
+            search (answering, f)
+
+        module _ (p : not b ≡ false) where
+          made : OldTask ≡ foundTask t kind n
+          unfolding if_then_else_
+          made = task-told (granted b p)
+
+          token-is : c .token ≡ tokenAt t new
+          token-is = token-read t n n n new e i
+
+          -- past the task, on to the guards of the token and of the counts
+          goes-on : {x : Reply} → x ≡ call t (tokenGuards t new kind n) → Creates t new kind n x
+          unfolding createTokenCall tokenGuards
+          goes-on s =
+              passes _ _ _ (le-ltb _ _ h)
+              (passes _ _ _ (lt-leb _ _ i) (passes _ _ _ (within-told o l) (the-task t _ _ made refl s)))
+
+          pub used : {x : Reply} → x ≡ answered t (pos 102) → c .token .made ≡ true → Creates t new kind n x
+          unfolding tokenGuards
+          used s k = goes-on (refuses t _ _ s (token-made token-is k))
+
+          module _ (k : c .token .made ≡ false) (z : kind ≡ 2) where
+            some-at : (count : ℕ) → someAt t kind n count ≡ c .thread .suspends =? count
+            unfolding someAt if_then_else_
+            some-at count = rw (z, thread-read t n n n new e (within-tasks kind n o l))
+
+            no-job : eqb kind 0 ≡ false
+            no-job = rw z
+
+            pub full : {x : Reply} → x ≡ answered t (pos 107) → c .thread .suspends ≡ 65535 →
+                Creates t new kind n x
+            unfolding tokenGuards
+            full s w =
+                goes-on
+                (passes _ _ _ (token-made token-is k)
+                (passes _ _ _ no-job (refuses t _ _ s (some-at FULL ∙ eq-eqb _ _ w))))
+
+            stored : answered (suspendedBy t new kind n (c .thread)) (pos 0)
+                ≡ answered (createToken t new kind n) (pos 0)
+            unfolding createToken suspendTask changeTask if_then_else_
+            stored =
+                let l128 : n < 128 = within-tasks kind n o l in
+                let a : n % 128 ≡ n = omega arith in
+                let b : new % 64 ≡ new = omega arith in
+                rw (a, b, thread-read t n n n new e l128, z)
+
+            pub created : {x : Reply} → c .thread .suspends ≢ 65535 →
+                x ≡ answered (suspendedBy t new kind n (c .thread)) (pos 0) →
+                Creates t new kind n x
+            unfolding tokenGuards
+            created w s =
+                goes-on
+                (passes _ _ _ (token-made token-is k)
+                (passes _ _ _ no-job (passes _ _ _ (some-at FULL ∙ ne-eqb _ _ w) (accepts t (s ∙ stored)))))
+
+-- ---- 0e --------------------------------------------------------------------------------------
+
+-- o has the token read, c the thread that it names
+abbrev Drops : Tables → ℕ → Reply → Type 0
+Drops t k x = x ≡ dropTokenCall t k
+
+-- the thread resumed, and the token dropped
+abbrev resumedBy : Tables → ℕ → SuspendToken → Thread → Tables
+resumedBy t k w v = putToken (putThread t (w .name % 128) (resume v)) (k % 64) (drop w)
+
+unfoldable countGuards : Tables → ℕ → SuspendToken → Guarded Reply
+countGuards t k v = do
+  refuse 106 when someAt t (v .kind) (v .name) 0
+  accept (dropToken t k (v .kind) (v .name))
+
+module _ (t : Tables) (k : ℕ) where
+  pub past-held : {x : Reply} → x ≡ answered t (pos 101) → 64 ≤ k → Drops t k x
+  unfolding dropTokenCall
+  past-held s h = search answering
+
+  module _ (h : k < 64) {o : Change} (d : o ≡ defs.unchanged t 0 0 0 k) where
+    held-is : o .token ≡ tokenAt t k
+    held-is = token-read t 0 0 0 k d h
+
+    lost : {b : Bool} → b ≡ false → (if b then OldToken (tokenAt t k) else NoToken) ≡ NoToken
+    unfolding if_then_else_
+    lost e = rw e
+
+    kept : {b : Bool} → b ≡ true → (if b then OldToken (tokenAt t k) else NoToken) ≡ OldToken (tokenAt t k)
+    unfolding if_then_else_
+    kept e = rw e
+
+    pub not-held : {x : Reply} → x ≡ answered t (pos 103) → not (o .token .held) ≡ true → Drops t k x
+    unfolding dropTokenCall foundToken
+    not-held s p =
+        let f : tokenAt t k .held ≡ false = rw (← held-is) (denied (o .token .held) p) in
+        passes _ _ _ (lt-leb _ _ h) (no-token t _ _ refl (lost f) s)
+
+    module _ (p : not (o .token .held) ≡ false) (z : o .token .kind ≢ 1) (l : o .token .name < 128)
+        {c : Change} (e : c ≡ defs.unchanged t 0 0 (o .token .name) k) where
+      found : {x : Reply} → x ≡ call t (countGuards t k (tokenAt t k)) → Drops t k x
+      unfolding dropTokenCall foundToken countGuards
+      found s =
+          let f : tokenAt t k .held ≡ true = rw (← held-is) (granted (o .token .held) p) in
+          passes _ _ _ (lt-leb _ _ h) (the-token t _ _ refl (kept f) s)
+
+      some-held : (count : ℕ) →
+          someAt t (tokenAt t k .kind) (tokenAt t k .name) count ≡ c .thread .suspends =? count
+      unfolding someAt if_then_else_
+      some-held count =
+          rw (← held-is, ne-eqb (o .token .kind) 1 z, thread-read t 0 0 (o .token .name) k e l)
+
+      pub resumed : {x : Reply} → x ≡ answered t (pos 106) → c .thread .suspends ≡ 0 → Drops t k x
+      unfolding countGuards
+      resumed s w = found (refuses t _ _ s (some-held 0 ∙ eq-eqb _ _ w))
+
+      put-back : answered (resumedBy t k (o .token) (c .thread)) (pos 0)
+          ≡ answered (dropToken t k (tokenAt t k .kind) (tokenAt t k .name)) (pos 0)
+      unfolding dropToken resumeTask changeTask if_then_else_
+      put-back =
+          let a : o .token .name % 128 ≡ o .token .name = omega arith in
+          let b : k % 64 ≡ k = omega arith in
+          rw (← held-is, ne-eqb (o .token .kind) 1 z, a, b, thread-read t 0 0 (o .token .name) k e l)
+
+      pub dropped : {x : Reply} → c .thread .suspends ≢ 0 →
+          x ≡ answered (resumedBy t k (o .token) (c .thread)) (pos 0) →
+          Drops t k x
+      unfolding countGuards
+      dropped w s = found (passes _ _ _ (some-held 0 ∙ ne-eqb _ _ w) (accepts t (s ∙ put-back)))

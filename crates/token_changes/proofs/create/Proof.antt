@@ -1,0 +1,108 @@
+use Rattle.change.proofs.Storing.{stays, stores-token}
+use Rattle.token_changes.proofs.Laws.{nothing-said, bad-kind, past-tokens, past-tasks}
+use Rattle.token_changes.proofs.Laws.{not-made, used, full, created}
+use borrow.Author.Needs.{needs}
+use Rattle.token_changes.proofs.create.Statement.{statement}
+use Rattle.token_changes.proofs.create.Tie as tie
+
+pub create-spec : {M : Type 1} → statement M
+create-spec =
+    tie.close
+    (tie.spec
+    (λ c κs. search needs)
+    (λ c κs. search needs)
+    (λ c w.
+    let i = c .before in
+    let u = i .before in
+    bad-kind _ _ _ _ (stays _ _ _ _ _ (u .unchanged .ensures) _ (c .answered .ensures)) (i .if1 .taken))
+    (λ c κs. search needs)
+    (λ c w.
+    let i = c .before in
+    let k = i .before in
+    let u = k .before in
+    past-tokens _ _ _ _ (k .if1 .left)
+    (stays _ _ _ _ _ (u .unchanged .ensures) _ (c .answered2 .ensures)) (i .if2 .taken))
+    (λ c κs. search needs)
+    (λ c κs. search needs)
+    (λ c w.
+    let i = c .before in
+    let m = i .before in
+    let l = m .before in
+    let k = l .before in
+    let u = k .before in
+    past-tasks _ _ _ _ (k .if1 .left) (l .if2 .left) (m .tasks-of .ensures)
+    (stays _ _ _ _ _ (u .unchanged .ensures) _ (c .answered3 .ensures)) (i .if3 .taken))
+    (λ c κs. search needs)
+    (λ c κs. search needs)
+    (λ c w.
+    let i = c .before in
+    let b = i .before in
+    let n = b .before in
+    let m = n .before in
+    let l = m .before in
+    let k = l .before in
+    let u = k .before in
+    not-made _ _ _ _ (k .if1 .left) (l .if2 .left) (m .tasks-of .ensures) (n .if3 .left)
+    (u .unchanged .ensures) (b .task-made .ensures)
+    (stays _ _ _ _ _ (u .unchanged .ensures) _ (c .answered4 .ensures)) (i .if4 .taken))
+    (λ c κs. search needs)
+    (λ c w.
+    let i = c .before in
+    let f = i .before .before in
+    let b = f .before in
+    let n = b .before in
+    let m = n .before in
+    let l = m .before in
+    let k = l .before in
+    let u = k .before in
+    used _ _ _ _ (k .if1 .left) (l .if2 .left) (m .tasks-of .ensures) (n .if3 .left)
+    (u .unchanged .ensures) (b .task-made .ensures) (f .if4 .left)
+    (stays _ _ _ _ _ (u .unchanged .ensures) _ (c .answered5 .ensures)) (i .if5 .taken))
+    (λ c w.
+    let u = c .before .before .before .before .before .before .before .before .before in
+    nothing-said _ _ _ _ _ (u .unchanged .ensures) w)
+    (λ c κs. search needs)
+    (λ c w.
+    let i = c .before in
+    let z = i .before .before .before in
+    let g = z .before in
+    let f = g .before .before in
+    let b = f .before in
+    let n = b .before in
+    let m = n .before in
+    let l = m .before in
+    let k = l .before in
+    let u = k .before in
+    full _ _ _ _ (k .if1 .left) (l .if2 .left) (m .tasks-of .ensures) (n .if3 .left)
+    (u .unchanged .ensures) (b .task-made .ensures) (f .if4 .left) (g .if5 .left) (z .if6 .left)
+    (stays _ _ _ _ _ (u .unchanged .ensures) _ (c .answered6 .ensures)) (i .if7 .taken))
+    (λ c κs. search needs)
+    (λ c κs. search needs)
+    (λ c κs. search needs)
+    (λ c κs. search needs)
+    (λ c κs. search needs)
+    (λ c w.
+    let k1 = c .before in
+    let k2 = k1 .before in
+    let k3 = k2 .before in
+    let s = k3 .before in
+    let i = s .before in
+    let z = i .before .before .before in
+    let g = z .before in
+    let f = g .before .before in
+    let b = f .before in
+    let n = b .before in
+    let m = n .before in
+    let l = m .before in
+    let k = l .before in
+    let u = k .before in
+    let e = simp (
+      k1 .with-token .ensures,
+      k2 .new .ensures,
+      k3 .with-thread .ensures,
+      s .suspend .ensures,
+    ) at (c .answered7 .ensures) in
+    created _ _ _ _ (k .if1 .left) (l .if2 .left) (m .tasks-of .ensures) (n .if3 .left)
+    (u .unchanged .ensures) (b .task-made .ensures) (f .if4 .left) (g .if5 .left) (z .if6 .left)
+    (i .if7 .left)
+    (stores-token _ _ _ _ _ (u .unchanged .ensures) _ _ _ e)))

@@ -1,0 +1,87 @@
+// token_changes: a suspend token made over a thread, and one dropped. Follows suspend_token.rs. A token over
+// a process, whose threads are more than one record, is left open.
+ghost use Rattle.model.specs.ThreadCalls.{createTokenCall, dropTokenCall};
+ghost use mathlib.Core.Path.{_≡_};
+ghost use Rattle.change.specs.Change.{Comes};
+ghost use Rattle.token_changes.specs.TokenChanges.{taskMade};
+use change::Change;
+use change::unchanged;
+use error::Refusal;
+use record_token::Kind;
+use record_token::SuspendToken;
+use records::tables::Tables;
+
+// Whether the task of this kind is made, of the three that have the name.
+fn task_made(c: Change, kind: u8) -> bool
+    ensures { λ r. ⌜ r ≡ taskMade c kind ⌝ }
+{
+    let j = c.job;
+    let q = c.process;
+    let v = c.thread;
+    if kind == Kind::JOB {
+        return j.made;
+    }
+    if kind == Kind::PROCESS {
+        return q.made;
+    }
+    v.made
+}
+
+// 0d: `SuspendToken::create`.
+pub fn create(t: Tables, new: u8, kind: u8, name: u8) -> Change
+    ensures { λ r. ⌜ Comes t (createTokenCall t new kind name) r ⌝ }
+{
+    let c = unchanged(t, name, name, name, new);
+    if 2 < kind {
+        return c.answered(Refusal::BAD_FIELD);
+    }
+    if 64 <= new {
+        return c.answered(Refusal::PAST_TABLE);
+    }
+    if owners::tasks_of(kind) <= name {
+        return c.answered(Refusal::PAST_TABLE);
+    }
+    if !task_made(c, kind) {
+        return c.answered(Refusal::NOT_MADE);
+    }
+    let k = c.token;
+    if k.made {
+        return c.answered(Refusal::USED);
+    }
+    if kind != Kind::THREAD {
+        return c;
+    }
+    let v = c.thread;
+    if v.suspends == 65535 {
+        return c.answered(Refusal::FULL);
+    }
+    c.with_thread(v.suspend())
+        .with_token(SuspendToken::new(kind, name))
+        .answered(0)
+}
+
+// 0e: a token dropped.
+pub fn drop(t: Tables, token: u8) -> Change
+    ensures { λ r. ⌜ Comes t (dropTokenCall t token) r ⌝ }
+{
+    let held = unchanged(t, 0, 0, 0, token);
+    let k = held.token;
+    let c = unchanged(t, 0, 0, k.name, token);
+    if 64 <= token {
+        return c.answered(Refusal::PAST_TABLE);
+    }
+    if !k.held {
+        return c.answered(Refusal::NOT_MADE);
+    }
+    if k.kind == Kind::PROCESS {
+        return c;
+    }
+    if 128 <= k.name {
+        return c;
+    }
+    let v = c.thread;
+    if v.suspends == 0 {
+        return c.answered(Refusal::PANICS);
+    }
+    c.with_thread(v.resume()).with_token(k.drop()).answered(0)
+}
