@@ -10,6 +10,7 @@ use change::unchanged;
 use commands::byte_at;
 use commands::value_at;
 use job_policy::TimerSlackPolicy;
+use record_process::Process;
 use records::tables::Tables;
 
 // 10, with its amount and mode.
@@ -27,7 +28,19 @@ fn set_slack(t: Tables, s: &[u8]) -> Change
 pub fn change_of(t: Tables, s: &[u8]) -> Change
     ensures { λ r. ⌜ Comes t (step t (callIn (now (s .entry)))) r ⌝ }
 {
+    let a = byte_at(s, 1);
+    let b = byte_at(s, 2);
     match byte_at(s, 0) {
+        0x01 => job_changes::create_child(t, a, b),
+        0x02 => job_changes::kill(t, a),
+        0x03 => process_changes::create_with_ext(t, a, b),
+        0x05 => process_changes::exit(t, a, value_at(s)),
+        0x06 => process_changes::exit(t, a, Process::KILL_CODE),
+        0x07 => process_changes::set_critical_at_job(t, a, b, byte_at(s, 3)),
+        0x0c => process_changes::finish(t, a),
+        0x0d => token_changes::create(t, a, b, byte_at(s, 3)),
+        0x0e => token_changes::drop(t, a),
+        0x0f => policy_changes::set_policy_four(t, a, b, byte_at(s, 3), commands::pairs_at(s)),
         0x10 => set_slack(t, s),
         _ => unchanged(t, 0, 0, 0, 0),
     }

@@ -11,9 +11,6 @@ use Rattle.records.specs.declared.tables.Tables.{Tables}
 use Rattle.records.specs.Tables.{withThreads}
 use Rattle.model.specs.SuspendToken.{changeIn}
 
-abbrev pub hasCount : ℕ → ℕ → Thread → Bool
-hasCount p count = λ v. threadOf v p and (v .suspends =? count)
-
 abbrev pub someCount : Tables → ℕ → ℕ → Bool
 someCount t p count = any (λ v. threadOf v p and (v .suspends =? count)) (t .threads)
 

@@ -1,7 +1,7 @@
 use Rattle.laws.proofs.Flow.{branches}
 use borrow.Author.Needs.{needs}
-use Rattle.scans.proofs.has_count.Statement.{statement}
-use Rattle.scans.proofs.has_count.Tie as tie
+use Rattle.lists.proofs.has_count.Statement.{statement}
+use Rattle.lists.proofs.has_count.Tie as tie
 
 pub has-count-spec : {M : Type 1} → statement M
 has-count-spec =
