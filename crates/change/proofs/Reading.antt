@@ -36,6 +36,7 @@ pub as-read : (t : Tables) (j p n k : ℕ) (job : Job) (own inherited : JobPolic
       p = p;
       n = n;
       k = k;
+      each = 0;
       job = getD (t .jobs) (j % 32) job;
       own = getD (t .own) (j % 32) own;
       inherited = getD (t .inherited) (j % 32) inherited;

@@ -7,10 +7,13 @@
 use Prim.Native.Nat.{ℕ, _%_, _<_}
 use native.Mathlib.Omega.{arith}
 use mathlib.Core.Path.{_≡_, refl, ap, _∙_}
+use mathlib.Core.List.{map}
 use lib.IntN.{ℤ}
+use Rattle.laws.specs.Choice.{_=?_, if_then_else_}
+use Rattle.lists.specs.Each.{eachIn}
 use lib.ListN.{getD, set}
 use lib.Seq.{set-getD}
-use mathlib.Core.Bool.{true}
+use mathlib.Core.Bool.{true, false}
 use Rattle.laws.proofs.Cases.{no-both}
 use Rattle.job_policy.specs.declared.JobPolicy.{JobPolicy}
 use Rattle.job_policy.specs.Policy.{noPolicy}
@@ -27,7 +30,7 @@ use Rattle.records.specs.declared.reply.Fields.{Fields}
 use Rattle.records.specs.Reply.{reply, answered}
 use Rattle.records.specs.Tables.{jobAt, ownAt, inheritedAt, processAt, fixedAt, threadAt, tokenAt}
 use Rattle.records.specs.Tables.{putJob, putOwn, putInherited, putProcess, putFixed, putThread}
-use Rattle.records.specs.Tables.{putToken}
+use Rattle.records.specs.Tables.{putToken, withThreads}
 use Rattle.change.specs.declared.Change.{Change}
 use Rattle.change.specs.Change as defs
 
@@ -97,36 +100,48 @@ module _ (t : Tables) (j p n k : ℕ) {c : Change} (e : c ≡ defs.unchanged t j
 
   -- nothing differs
   pub stays : {r : Change} (a : ℤ) → r ≡ defs.answered c a → defs.stored t r ≡ answered t a
-  unfolding defs.stored defs.storing defs.unchanged putJob putOwn putInherited putProcess putFixed putThread putToken reply answered
+  unfolding defs.stored defs.storing defs.spread if_then_else_ defs.unchanged putJob putOwn putInherited putProcess putFixed putThread putToken reply answered
   stays a x = rw (x, e, jobs-kept, own-kept, inherited-kept, processes-kept, fixed-kept, threads-kept, tokens-kept)
 
   -- one record differs
   pub stores-job : {r : Change} (v : Job) (a : ℤ) → r ≡ defs.answered (defs.withJob c v) a → defs.stored t r ≡ answered (putJob t (j % 32) v) a
-  unfolding defs.stored defs.storing defs.unchanged putJob putOwn putInherited putProcess putFixed putThread putToken reply answered
+  unfolding defs.stored defs.storing defs.spread if_then_else_ defs.unchanged putJob putOwn putInherited putProcess putFixed putThread putToken reply answered
   stores-job v a x = rw (x, e, own-kept, inherited-kept, processes-kept, fixed-kept, threads-kept, tokens-kept)
 
   pub stores-own : {r : Change} (v : JobPolicy) (a : ℤ) → r ≡ defs.answered (defs.withOwn c v) a → defs.stored t r ≡ answered (putOwn t (j % 32) v) a
-  unfolding defs.stored defs.storing defs.unchanged putJob putOwn putInherited putProcess putFixed putThread putToken reply answered
+  unfolding defs.stored defs.storing defs.spread if_then_else_ defs.unchanged putJob putOwn putInherited putProcess putFixed putThread putToken reply answered
   stores-own v a x = rw (x, e, jobs-kept, inherited-kept, processes-kept, fixed-kept, threads-kept, tokens-kept)
 
   pub stores-process : {r : Change} (v : Process) (a : ℤ) → r ≡ defs.answered (defs.withProcess c v) a → defs.stored t r ≡ answered (putProcess t (p % 64) v) a
-  unfolding defs.stored defs.storing defs.unchanged putJob putOwn putInherited putProcess putFixed putThread putToken reply answered
+  unfolding defs.stored defs.storing defs.spread if_then_else_ defs.unchanged putJob putOwn putInherited putProcess putFixed putThread putToken reply answered
   stores-process v a x = rw (x, e, jobs-kept, own-kept, inherited-kept, fixed-kept, threads-kept, tokens-kept)
 
   pub stores-thread : {r : Change} (v : Thread) (a : ℤ) (f : Fields) → r ≡ defs.shown (defs.withThread c v) a f → defs.stored t r ≡ reply (putThread t (n % 128) v) a f
-  unfolding defs.stored defs.storing defs.unchanged putJob putOwn putInherited putProcess putFixed putThread putToken reply answered
+  unfolding defs.stored defs.storing defs.spread if_then_else_ defs.unchanged putJob putOwn putInherited putProcess putFixed putThread putToken reply answered
   stores-thread v a f x = rw (x, e, jobs-kept, own-kept, inherited-kept, processes-kept, fixed-kept, tokens-kept)
 
   -- a new job or process with its policy
   pub stores-new-job : {r : Change} (v : Job) (o : JobPolicy) (a : ℤ) → r ≡ defs.answered (defs.withInherited (defs.withJob c v) o) a → defs.stored t r ≡ answered (putInherited (putJob t (j % 32) v) (j % 32) o) a
-  unfolding defs.stored defs.storing defs.unchanged putJob putOwn putInherited putProcess putFixed putThread putToken reply answered
+  unfolding defs.stored defs.storing defs.spread if_then_else_ defs.unchanged putJob putOwn putInherited putProcess putFixed putThread putToken reply answered
   stores-new-job v o a x = rw (x, e, own-kept, processes-kept, fixed-kept, threads-kept, tokens-kept)
 
   pub stores-new-process : {r : Change} (v : Process) (o : JobPolicy) (a : ℤ) → r ≡ defs.answered (defs.withFixed (defs.withProcess c v) o) a → defs.stored t r ≡ answered (putFixed (putProcess t (p % 64) v) (p % 64) o) a
-  unfolding defs.stored defs.storing defs.unchanged putJob putOwn putInherited putProcess putFixed putThread putToken reply answered
+  unfolding defs.stored defs.storing defs.spread if_then_else_ defs.unchanged putJob putOwn putInherited putProcess putFixed putThread putToken reply answered
   stores-new-process v o a x = rw (x, e, jobs-kept, own-kept, inherited-kept, threads-kept, tokens-kept)
 
   -- a thread and a token
   pub stores-token : {r : Change} (v : Thread) (w : SuspendToken) (a : ℤ) → r ≡ defs.answered (defs.withToken (defs.withThread c v) w) a → defs.stored t r ≡ answered (putToken (putThread t (n % 128) v) (k % 64) w) a
-  unfolding defs.stored defs.storing defs.unchanged putJob putOwn putInherited putProcess putFixed putThread putToken reply answered
+  unfolding defs.stored defs.storing defs.spread if_then_else_ defs.unchanged putJob putOwn putInherited putProcess putFixed putThread putToken reply answered
   stores-token v w a x = rw (x, e, jobs-kept, own-kept, inherited-kept, processes-kept, fixed-kept)
+
+  -- each thread of a process, and its record
+  pub spreads : {r : Change} (x : ℕ) (a : ℤ) → (x =? 0) ≡ false → r ≡ defs.answered (defs.withEach c x) a →
+      defs.stored t r ≡ answered (withThreads t (map (eachIn x p) (t .threads))) a
+  unfolding defs.stored defs.storing defs.spread if_then_else_ defs.unchanged putJob putOwn putInherited putProcess putFixed putThread putToken reply answered
+  spreads x a h y = rw (y, e, h, jobs-kept, own-kept, inherited-kept, processes-kept, fixed-kept, threads-kept, tokens-kept)
+
+  pub stores-process-spreads : {r : Change} (v : Process) (x : ℕ) (a : ℤ) → (x =? 0) ≡ false →
+      r ≡ defs.answered (defs.withEach (defs.withProcess c v) x) a →
+      defs.stored t r ≡ answered (withThreads (putProcess t (p % 64) v) (map (eachIn x p) (t .threads))) a
+  unfolding defs.stored defs.storing defs.spread if_then_else_ defs.unchanged putJob putOwn putInherited putProcess putFixed putThread putToken reply answered
+  stores-process-spreads v x a h y = rw (y, e, h, jobs-kept, own-kept, inherited-kept, fixed-kept, threads-kept, tokens-kept)

@@ -1,8 +1,12 @@
--- A call that changes at most one record of each table: those records as they are after it, and what that stands for.
+-- A call that changes at most one record of each table, and each thread of one process alike: those records as they are
+-- after it, and what that stands for.
 use Prim.Native.Nat.{ℕ, _%_}
 use mathlib.Core.Path.{_≡_}
 use mathlib.Core.Bool.{Bool, true, false}
+use mathlib.Core.List.{map}
 use lib.IntN.{ℤ, pos}
+use Rattle.laws.specs.Choice.{_=?_, if_then_else_}
+use Rattle.lists.specs.Each.{eachIn}
 use Rattle.job_policy.specs.declared.JobPolicy.{JobPolicy}
 use Rattle.record_job.specs.declared.Job.{Job}
 use Rattle.record_process.specs.declared.Process.{Process}
@@ -15,7 +19,7 @@ use Rattle.records.specs.declared.reply.Reply.{Reply}
 use Rattle.records.specs.Reply.{reply}
 use Rattle.records.specs.Tables.{jobAt, ownAt, inheritedAt, processAt, fixedAt, threadAt, tokenAt}
 use Rattle.records.specs.Tables.{putJob, putOwn, putInherited, putProcess, putFixed, putThread}
-use Rattle.records.specs.Tables.{putToken}
+use Rattle.records.specs.Tables.{putToken, withThreads}
 use Rattle.change.specs.declared.Change.{Change}
 
 -- ---- The records under four names ------------------------------------------------------------
@@ -31,6 +35,7 @@ unchanged t j p n k =
       p = p;
       n = n;
       k = k;
+      each = 0;
       job = jobAt t (j % 32);
       own = ownAt t (j % 32);
       inherited = inheritedAt t (j % 32);
@@ -53,6 +58,7 @@ shown c answer fields =
       p = c .p;
       n = c .n;
       k = c .k;
+      each = c .each;
       job = c .job;
       own = c .own;
       inherited = c .inherited;
@@ -76,6 +82,7 @@ withRecords c job own inherited process fixed thread token =
       p = c .p;
       n = c .n;
       k = c .k;
+      each = c .each;
       job = job;
       own = own;
       inherited = inherited;
@@ -106,6 +113,27 @@ withThread c v = withRecords c (c .job) (c .own) (c .inherited) (c .process) (c 
 abbrev pub withToken : Change → SuspendToken → Change
 withToken c v = withRecords c (c .job) (c .own) (c .inherited) (c .process) (c .fixed) (c .thread) v
 
+-- and a change of each thread that process p lists
+abbrev pub withEach : Change → ℕ → Change
+withEach c each =
+    record {
+      whole = c .whole;
+      answer = c .answer;
+      fields = c .fields;
+      j = c .j;
+      p = c .p;
+      n = c .n;
+      k = c .k;
+      each = each;
+      job = c .job;
+      own = c .own;
+      inherited = c .inherited;
+      process = c .process;
+      fixed = c .fixed;
+      thread = c .thread;
+      token = c .token;
+    }
+
 -- ---- What a change stands for ------------------------------------------------------------------
 
 -- the tables with these records
@@ -116,9 +144,16 @@ storingJob t c =
 abbrev pub storingProcess : Tables → Change → Tables
 storingProcess t c = putFixed (putProcess t (c .p % 64) (c .process)) (c .p % 64) (c .fixed)
 
-unfoldable pub storing : Tables → Change → Tables
-storing t c =
+abbrev pub storingRecords : Tables → Change → Tables
+storingRecords t c =
     putToken (putThread (storingProcess (storingJob t c) c) (c .n % 128) (c .thread)) (c .k % 64) (c .token)
+
+-- 0 changes no other thread
+unfoldable pub spread : ℕ → ℕ → Tables → Tables
+spread each p t = if each =? 0 then t else withThreads t (map (eachIn each p) (t .threads))
+
+unfoldable pub storing : Tables → Change → Tables
+storing t c = spread (c .each) (c .p) (storingRecords t c)
 
 unfoldable pub stored : Tables → Change → Reply
 stored t c = reply (storing t c) (c .answer) (c .fields)

@@ -1,5 +1,5 @@
-// change: what a call changes, where that is at most one record of each table, so that a caller with the tables can work
-// in place. specs/Change.antt says what a change stands for.
+// change: what a call changes, where that is at most one record of each table, and each thread of one process alike, so that
+// a caller with the tables can work in place. specs/Change.antt says what a change stands for.
 ghost use mathlib.Core.Path.{_≡_};
 ghost use Rattle.change.specs.Change as defs;
 use job_policy::JobPolicy;
@@ -20,6 +20,8 @@ pub struct Change {
     pub p: u8,
     pub n: u8,
     pub k: u8,
+    // What is done to each thread that process p lists, by `lists::Each`; 0: nothing.
+    pub each: u8,
     pub job: Job,
     pub own: JobPolicy,
     pub inherited: JobPolicy,
@@ -45,6 +47,7 @@ pub fn unchanged(t: Tables, j: u8, p: u8, n: u8, k: u8) -> Change
         p: p,
         n: n,
         k: k,
+        each: 0,
         job: t.jobs[a],
         own: t.own[a],
         inherited: t.inherited[a],
@@ -84,6 +87,7 @@ impl Change {
             p: self.p,
             n: self.n,
             k: self.k,
+            each: self.each,
             job: job,
             own: own,
             inherited: inherited,
@@ -140,6 +144,13 @@ impl Change {
         ensures { λ r. ⌜ r ≡ defs.withToken self v ⌝ }
     {
         self.token = v;
+        self
+    }
+
+    pub fn with_each(mut self, each: u8) -> Change
+        ensures { λ r. ⌜ r ≡ defs.withEach self each ⌝ }
+    {
+        self.each = each;
         self
     }
 }
