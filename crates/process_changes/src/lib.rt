@@ -1,5 +1,5 @@
 // process_changes: making, binding and ending a process and finishing a thread, where the call changes one
-// record at most. Follows process.rs. A call that may change more is left open, as is one `deciding` refuses.
+// record at most. Follows process.rs. A call that may change more is left open, like one `deciding` refuses.
 ghost use Rattle.model.specs.JobCalls.{createProcess, exitProcessCall, setCriticalAtJob};
 ghost use Rattle.model.specs.ThreadCalls.{finishThreadCall};
 ghost use Rattle.change.specs.Change.{Comes};
