@@ -1,6 +1,7 @@
--- How a `return` of a call meets its definition, where it changes one job or none.
+-- How a `return` of a call meets its definition, where the call changes one job or none.
 --     left-open                nothing is said of a call that is left open
---     past-job, .., creates    the ways of making a job: u has the record of the job above, c that of the new name
+--     past-job, .., creates    the ways of making a job: u is read at the job above, c at the new name
+--     kills                    a job that lists nothing, below one that lives on
 -- Assumes nothing.
 use Prim.Native.Nat.{ℕ, zero, suc, _%_, _≤_, _<_}
 use native.Mathlib.Decide.{ℕ-discrete}
@@ -25,7 +26,8 @@ use Rattle.records.specs.declared.tables.FoundJob.the-variants.{NoJob, OldJob}
 use Rattle.records.specs.declared.reply.Reply.{Reply}
 use Rattle.records.specs.Reply.{answered}
 use Rattle.records.specs.Tables.{jobAt, processAt, foundJob, putJob, withJobs}
-use Rattle.model.specs.Job.{listsChild, listsProcess, jobEmpty, mayTerminate, terminateUp, terminateJob, killJob}
+use Rattle.model.specs.Job.{listsChild, listsProcess, jobEmpty, mayTerminate, terminateUp, terminateJob}
+use Rattle.model.specs.Job.{killJob}
 use Rattle.model.specs.JobPolicy.{policyOf}
 use Rattle.model.specs.JobCalls.{withChild, createChild, killJobCall}
 use Rattle.model.proofs.Answering.{answering}
@@ -41,7 +43,8 @@ use Rattle.job_changes.specs.Below.{belowKilled}
 
 -- ---- A call left open ------------------------------------------------------------------------
 
-pub left-open : {A : Type 0} (t : Tables) (j p n k : ℕ) {c : Change} → c ≡ defs.unchanged t j p n k → c .whole ≡ true → A
+pub left-open : {A : Type 0} (t : Tables) (j p n k : ℕ) {c : Change} →
+    c ≡ defs.unchanged t j p n k → c .whole ≡ true → A
 unfolding defs.unchanged
 left-open t j p n k e h = no-both h (ap (λ (x : Change). x .whole) e)
 
@@ -91,7 +94,8 @@ module _ (t : Tables) (j n : ℕ) {x : Reply} where
         unfolding createChild
         accepted h e = let g = old-job t j m in search answering depth 20
 
-module _ (t : Tables) (j n : ℕ) {u c : Change} (d : u ≡ defs.unchanged t j 0 0 0) (e : c ≡ defs.unchanged t n 0 0 0) where
+module _ (t : Tables) (j n : ℕ) {u c : Change} (d : u ≡ defs.unchanged t j 0 0 0)
+    (e : c ≡ defs.unchanged t n 0 0 0) where
   refused : {r : Change} (a : ℤ) → r ≡ defs.answered c a → defs.stored t r ≡ answered t a
   refused a x = storing.stays t n 0 0 0 e a x
 
@@ -102,27 +106,32 @@ module _ (t : Tables) (j n : ℕ) {u c : Change} (d : u ≡ defs.unchanged t j 0
     job : u .job ≡ jobAt t j
     job = storing.job-read t j 0 0 0 d a
 
-    pub past-name : {r : Change} → 32 ≤ n → r ≡ defs.answered c (pos 101) → defs.stored t r ≡ createChild t j n
+    pub past-name : {r : Change} → 32 ≤ n → r ≡ defs.answered c (pos 101) →
+        defs.stored t r ≡ createChild t j n
     past-name h x = past-new t j n a h (refused _ x)
 
     module _ (b : n < 32) where
       new : c .job ≡ jobAt t n
       new = storing.job-read t n 0 0 0 e b
 
-      pub unmade : {r : Change} → u .job .made ≡ false → r ≡ defs.answered c (pos 103) → defs.stored t r ≡ createChild t j n
+      pub unmade : {r : Change} → u .job .made ≡ false → r ≡ defs.answered c (pos 103) →
+          defs.stored t r ≡ createChild t j n
       unmade h x = not-above t j n a b (made-read job h) (refused _ x)
 
       module _ (m : u .job .made ≡ true) where
-        pub used : {r : Change} → c .job .made ≡ true → r ≡ defs.answered c (pos 102) → defs.stored t r ≡ createChild t j n
+        pub used : {r : Change} → c .job .made ≡ true → r ≡ defs.answered c (pos 102) →
+            defs.stored t r ≡ createChild t j n
         used h x = used-new t j n a b (made-read job m) (made-read new h) (refused _ x)
 
         module _ (f : c .job .made ≡ false) where
-          pub killed-above : {r : Change} → u .job .killed ≡ true → r ≡ defs.answered c BAD-STATE → defs.stored t r ≡ createChild t j n
+          pub killed-above : {r : Change} → u .job .killed ≡ true → r ≡ defs.answered c BAD-STATE →
+              defs.stored t r ≡ createChild t j n
           killed-above h x =
               below-killed t j n a b (made-read job m) (made-read new f) (killed-read job h) (refused _ x)
 
           pub creates : {r : Change} → u .job .killed ≡ false →
-              r ≡ defs.answered (defs.withInherited (defs.withJob c (newJob j)) (merge (u .own) (u .inherited))) (pos 0) →
+              r ≡ defs.answered (defs.withInherited (defs.withJob c (newJob j))
+              (merge (u .own) (u .inherited))) (pos 0) →
               defs.stored t r ≡ createChild t j n
           unfolding withChild policyOf
           creates h x =
@@ -152,8 +161,8 @@ unfolding terminateUp
 ends-again zero t j a e = refl
 ends-again (suc n) t j a e =
     by (mayTerminate t j)
-    (λ h. ends-again n t j a e ∙ up-goes n (suc n) refl t j (jobAt t j) (terminated (jobAt t j)) t refl refl e j a h)
-    (λ h. up-stops n (suc n) refl t j (jobAt t j) (terminated (jobAt t j)) t refl refl e j a h)
+    (λ h. ends-again n t j a e ∙ up-goes n (suc n) refl t j (jobAt t j) _ t refl refl e j a h)
+    (λ h. up-stops n (suc n) refl t j (jobAt t j) _ t refl refl e j a h)
 
 -- a job whose parent is not killed terminates, and no more
 module _ (t : Tables) (j : ℕ) (v : Job) (e : v ≡ jobAt t j) (m : v .made ≡ true)
@@ -165,10 +174,11 @@ module _ (t : Tables) (j : ℕ) (v : Job) (e : v ≡ jobAt t j) (m : v .made ≡
   own-parent a n =
       let here : jobAt after j ≡ terminated v = putJob-made t j (terminated v) (made-read e m) in
       let same : after ≡ putJob after j (terminated (jobAt after j)) =
-          rw here (sym (twice t j (terminated v) (terminated v))) in
+      rw here (sym (twice t j (terminated v) (terminated v))) in
       ends-again n after j (ap (λ (u : Job). u .parent) here ∙ a) same
 
-  below : (p : ℕ) → v .parent ≡ ChildOf p → mayTerminate after p ≡ true → Dec (p ≡ j) → after ≡ terminateUp 31 after p
+  below : (p : ℕ) → v .parent ≡ ChildOf p → mayTerminate after p ≡ true → Dec (p ≡ j) →
+      after ≡ terminateUp 31 after p
   below p a h (yes d) =
       own-parent (a ∙ ap (λ (i : ℕ). ChildOf i) d) 31 ∙ ap (terminateUp 31 after) (sym d)
   below p a h (no n) =
@@ -207,10 +217,11 @@ killed-call : (t : Tables) (j : ℕ) {x : Reply} → j < 32 → jobAt t j .made 
 unfolding killJobCall
 killed-call t j a m e = let g = old-job t j m in search answering depth 20
 
-pub kills : (t : Tables) (j : ℕ) {c r : Change} → c ≡ defs.unchanged t j 0 0 0 → j < 32 → c .job .made ≡ true →
-    c .job .killed ≡ false → any (λ v. childOf v j) (t .jobs) ≡ false →
+pub kills : (t : Tables) (j : ℕ) {c r : Change} → c ≡ defs.unchanged t j 0 0 0 → j < 32 →
+    c .job .made ≡ true → c .job .killed ≡ false → any (λ v. childOf v j) (t .jobs) ≡ false →
     any (λ q. memberOf q j) (t .processes) ≡ false → belowKilled (t .jobs) (c .job .parent) ≡ false →
-    r ≡ defs.answered (defs.withJob c (terminated (killed (c .job)))) (pos 0) → defs.stored t r ≡ killJobCall t j
+    r ≡ defs.answered (defs.withJob c (terminated (killed (c .job)))) (pos 0) →
+    defs.stored t r ≡ killJobCall t j
 unfolding listsChild listsProcess
 kills t j e a m k x l b y =
     let job = storing.job-read t j 0 0 0 e a in

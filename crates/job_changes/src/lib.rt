@@ -1,5 +1,5 @@
-// job_changes: making and killing a job, where the call changes no more than the record of that job. Follows job.rs. A call
-// that may change more is left open; where `deciding` answers a refusal already, it is left open too.
+// job_changes: making and killing a job, where the call changes no more than the record of that job. Follows
+// job.rs. A call that may change more is left open; so is a kill that `deciding` answers already.
 ghost use mathlib.Core.Path.{_≡_};
 ghost use Rattle.model.specs.JobCalls.{createChild, killJobCall};
 ghost use Rattle.change.specs.Change.{Comes};

@@ -1,6 +1,9 @@
--- How the end of a call meets its definition, where it changes one record.
---     left-open             nothing is said of a call that is left open
---     creates, ..           the call on the way that the code takes
+-- How a `return` of a call meets its definition, where the call changes one record or none.
+--     left-open                nothing is said of a call that is left open
+--     creates                  a new process
+--     denies, binds            a binding to a job that is not above, and to one that is
+--     finishes                 a thread that is not the last of its process
+--     exits                    a process that lists no thread
 -- Assumes nothing.
 use Prim.Native.Nat.{ℕ, _%_, _≤_, _<_}
 use native.Mathlib.Omega.{arith}
@@ -28,13 +31,11 @@ use Rattle.records.specs.declared.tables.Tables.{Tables}
 use Rattle.records.specs.declared.tables.FoundJob.the-variants.{OldJob}
 use Rattle.records.specs.declared.tables.FoundProcess.the-variants.{OldProcess}
 use Rattle.records.specs.declared.tables.FoundThread.the-variants.{OldThread}
-use Rattle.records.specs.declared.reply.Fields.the-variants.{NoFields}
 use Rattle.records.specs.declared.reply.Reply.{Reply}
 use Rattle.records.specs.Reply.{reply, answered}
 use Rattle.records.specs.Tables.{jobAt, processAt, threadAt, foundJob, foundProcess, foundThread, putProcess}
 use Rattle.records.specs.Tables.{putThread, withProcesses}
-use Rattle.model.specs.Job.{atOrAbove, mayTerminate, listsThread, unlistProcess, endProcess, exitProcess}
-use Rattle.model.specs.Job.{finishThread}
+use Rattle.model.specs.Job.{atOrAbove, mayTerminate, listsThread, exitProcess, finishThread}
 use Rattle.model.specs.JobPolicy.{policyOf}
 use Rattle.model.specs.JobCalls.{withNewProcess, createProcess, setCriticalAtJob, exitProcessCall}
 use Rattle.model.specs.ThreadCalls.{finishThreadCall}
@@ -50,7 +51,8 @@ use Rattle.process_changes.specs.Above.{SaysAbove}
 
 -- ---- A call left open ------------------------------------------------------------------------
 
-pub left-open : {A : Type 0} (t : Tables) (j p n k : ℕ) {c : Change} → c ≡ defs.unchanged t j p n k → c .whole ≡ true → A
+pub left-open : {A : Type 0} (t : Tables) (j p n k : ℕ) {c : Change} →
+    c ≡ defs.unchanged t j p n k → c .whole ≡ true → A
 unfolding defs.unchanged
 left-open t j p n k e h = no-both h (ap (λ (x : Change). x .whole) e)
 
@@ -60,7 +62,8 @@ old-job : (t : Tables) (j : ℕ) → jobAt t j .made ≡ true → foundJob t j �
 unfolding foundJob if_then_else_
 old-job t j e = rw e
 
-old-process : (t : Tables) (p : ℕ) → processAt t p .made ≡ true → foundProcess t p ≡ OldProcess (processAt t p)
+old-process : (t : Tables) (p : ℕ) → processAt t p .made ≡ true →
+    foundProcess t p ≡ OldProcess (processAt t p)
 unfolding foundProcess if_then_else_
 old-process t p e = rw e
 
@@ -77,7 +80,8 @@ accepted t j p a b m n k = let g = old-job t j m in search answering depth 20
 
 pub creates : (t : Tables) (j p : ℕ) {c r : Change} (e : c ≡ defs.unchanged t j p 0 0) → j < 32 → p < 64 →
     c .job .made ≡ true → c .process .made ≡ false → c .job .killed ≡ false →
-    r ≡ defs.answered (defs.withFixed (defs.withProcess c (newProcess j)) (merge (c .own) (c .inherited))) (pos 0) →
+    r ≡ defs.answered (defs.withFixed (defs.withProcess c (newProcess j)) (merge (c .own) (c .inherited)))
+    (pos 0) →
     defs.stored t r ≡ createProcess t j p
 unfolding withNewProcess policyOf
 creates t j p {c} e a b m n k x =
@@ -94,19 +98,23 @@ creates t j p {c} e a b m n k x =
 
 module _ (t : Tables) (p j f : ℕ) (a : f ≤ 1) (b : p < 64) (d : j < 32) (m : processAt t p .made ≡ true)
     (n : jobAt t j .made ≡ true) (u : isCritical (processAt t p .critical) ≡ false) {x : Reply} where
-  not-above : atOrAbove t j (processAt t p .job) ≡ false → x ≡ answered t INVALID-ARGS → x ≡ setCriticalAtJob t p j f
+  not-above : atOrAbove t j (processAt t p .job) ≡ false → x ≡ answered t INVALID-ARGS →
+      x ≡ setCriticalAtJob t p j f
   unfolding setCriticalAtJob
   not-above h e = let g = old-process t p m in let v = old-job t j n in search answering depth 20
 
   above : atOrAbove t j (processAt t p .job) ≡ true →
-      x ≡ answered (putProcess t p (bindTo (processAt t p) j (f =? 1))) (pos 0) → x ≡ setCriticalAtJob t p j f
+      x ≡ answered (putProcess t p (bindTo (processAt t p) j (f =? 1))) (pos 0) →
+      x ≡ setCriticalAtJob t p j f
   unfolding setCriticalAtJob
   above h e = let g = old-process t p m in let v = old-job t j n in search answering depth 20
 
-module _ (t : Tables) (p j f : ℕ) {c : Change} (e : c ≡ defs.unchanged t j p 0 0) (a : f ≤ 1) (b : p < 64) (d : j < 32)
-    (m : c .process .made ≡ true) (n : c .job .made ≡ true) (u : isCritical (c .process .critical) ≡ false) {z : Bool}
+module _ (t : Tables) (p j f : ℕ) {c : Change} (e : c ≡ defs.unchanged t j p 0 0)
+    (a : f ≤ 1) (b : p < 64) (d : j < 32) (m : c .process .made ≡ true) (n : c .job .made ≡ true)
+    (u : isCritical (c .process .critical) ≡ false) {z : Bool}
     (s : SaysAbove (t .jobs) j (c .process .job) z) where
-  pub denies : {r : Change} → z ≡ false → r ≡ defs.answered c INVALID-ARGS → defs.stored t r ≡ setCriticalAtJob t p j f
+  pub denies : {r : Change} → z ≡ false → r ≡ defs.answered c INVALID-ARGS →
+      defs.stored t r ≡ setCriticalAtJob t p j f
   denies h x =
       let job = storing.job-read t j p 0 0 e d in
       let process = storing.process-read t j p 0 0 e b in
@@ -120,13 +128,13 @@ module _ (t : Tables) (p j f : ℕ) {c : Change} (e : c ≡ defs.unchanged t j p
       let job = storing.job-read t j p 0 0 e d in
       let process = storing.process-read t j p 0 0 e b in
       let here : p % 64 ≡ p = omega arith in
-      above t p j f a b d (rw process at m) (rw job at n) (rw process at u) (rw process at (sym (s t refl) ∙ h))
-      (rw (here, process) at (storing.stores-process t j p 0 0 e _ _ x))
+      above t p j f a b d (rw process at m) (rw job at n) (rw process at u)
+      (rw process at (sym (s t refl) ∙ h)) (rw (here, process) at (storing.stores-process t j p 0 0 e _ _ x))
 
 -- ---- A thread that is not the last -----------------------------------------------------------
 
-leaves : (t : Tables) (n : ℕ) {x : Reply} → n < 128 → threadAt t n .made ≡ true → isFree (threadAt t n) ≡ true →
-    x ≡ answered (finishThread t n) (pos 0) → x ≡ finishThreadCall t n
+leaves : (t : Tables) (n : ℕ) {x : Reply} → n < 128 → threadAt t n .made ≡ true →
+    isFree (threadAt t n) ≡ true → x ≡ answered (finishThread t n) (pos 0) → x ≡ finishThreadCall t n
 unfolding finishThreadCall
 leaves t n a m f e = let g = old-thread t n m in search answering depth 20
 
@@ -138,7 +146,8 @@ lists-more t n p v h = h
 pub finishes : (t : Tables) (n : ℕ) {c r : Change} → c ≡ defs.unchanged t 0 0 n 0 → n < 128 →
     c .thread .made ≡ true → isFree (c .thread) ≡ true →
     any (λ v. threadOf v (c .thread .process)) (set (t .threads) n (finish (c .thread))) ≡ true →
-    r ≡ defs.answered (defs.withThread c (finish (c .thread))) (pos 0) → defs.stored t r ≡ finishThreadCall t n
+    r ≡ defs.answered (defs.withThread c (finish (c .thread))) (pos 0) →
+    defs.stored t r ≡ finishThreadCall t n
 unfolding reply answered
 finishes t n {c} e a m f l x =
     let thread = storing.thread-read t 0 0 n 0 e a in
@@ -167,9 +176,10 @@ unfolding mayTerminate jobAt putProcess
 lives-on t j p i a b k = sym (and-stops _ k)
 
 -- s is the process as it exits; u has s, and w has it ended
-ends-at-once : (t : Tables) (p : ℕ) (code : ℤ) → processAt t p .made ≡ true → isExited (processAt t p .status) ≡ false →
-    isCritical (processAt t p .critical) ≡ false → jobAt t (processAt t p .job) .killed ≡ false →
-    listsThread t p ≡ false → putProcess t p (ended (withStatus (processAt t p) (Exited code))) ≡ exitProcess t p code
+ends-at-once : (t : Tables) (p : ℕ) (code : ℤ) → processAt t p .made ≡ true →
+    isExited (processAt t p .status) ≡ false → isCritical (processAt t p .critical) ≡ false →
+    jobAt t (processAt t p .job) .killed ≡ false → listsThread t p ≡ false →
+    putProcess t p (ended (withStatus (processAt t p) (Exited code))) ≡ exitProcess t p code
 ends-at-once t p code m x f k l =
     let s : Process = withStatus (processAt t p) (Exited code) in
     let u : Tables = putProcess t p s in
@@ -186,7 +196,8 @@ unfolding exitProcessCall
 exited t p code a m e = let g = old-process t p m in search answering depth 20
 
 pub exits : (t : Tables) (p : ℕ) (code : ℤ) {c r : Change} → c ≡ defs.unchanged t 0 p 0 0 → p < 64 →
-    c .process .made ≡ true → isExited (c .process .status) ≡ false → isCritical (c .process .critical) ≡ false →
+    c .process .made ≡ true → isExited (c .process .status) ≡ false →
+    isCritical (c .process .critical) ≡ false →
     getD (t .jobs) (c .process .job) noJob .killed ≡ false → any (λ v. threadOf v p) (t .threads) ≡ false →
     r ≡ defs.answered (defs.withProcess c (ended (withStatus (c .process) (Exited code)))) (pos 0) →
     defs.stored t r ≡ exitProcessCall t p code
@@ -194,5 +205,6 @@ unfolding jobAt listsThread
 exits t p code e a m x f k l y =
     let process = storing.process-read t 0 p 0 0 e a in
     let here : p % 64 ≡ p = omega arith in
-    let o = ends-at-once t p code (rw process at m) (rw process at x) (rw process at f) (rw process at k) l in
-    exited t p code a (rw process at m) (rw (here, process, o) at (storing.stores-process t 0 p 0 0 e _ _ y))
+    let made = rw process at m in
+    let o = ends-at-once t p code made (rw process at x) (rw process at f) (rw process at k) l in
+    exited t p code a made (rw (here, process, o) at (storing.stores-process t 0 p 0 0 e _ _ y))

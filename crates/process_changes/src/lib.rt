@@ -1,5 +1,5 @@
-// process_changes: making, binding and ending a process and finishing a thread, where the call changes no more than one
-// record. Follows process.rs. A call that may change more is left open; so is one that `deciding` refuses already.
+// process_changes: making, binding and ending a process and finishing a thread, where the call changes one
+// record at most. Follows process.rs. A call that may change more is left open, like one `deciding` refuses.
 ghost use Rattle.model.specs.JobCalls.{createProcess, exitProcessCall, setCriticalAtJob};
 ghost use Rattle.model.specs.ThreadCalls.{finishThreadCall};
 ghost use Rattle.change.specs.Change.{Comes};
@@ -38,10 +38,13 @@ pub fn create_with_ext(t: Tables, job: u8, new: u8) -> Change
     let own = c.own;
     let inherited = c.inherited;
     let policy = own.merge(inherited);
-    c.with_process(Process::new(job)).with_fixed(policy).answered(0)
+    c.with_process(Process::new(job))
+        .with_fixed(policy)
+        .answered(0)
 }
 
-// 05, 06: `Process::exit`, on a process that lists no thread and is bound to no job, in a job that lives on: it ends at once.
+// 05, 06: `Process::exit`, on a process that lists no thread and is bound to no job, in a job that lives on:
+// it ends at once.
 pub fn exit(t: Tables, process: u8, code: i64) -> Change
     ensures { λ r. ⌜ Comes t (exitProcessCall t process code) r ⌝ }
 {
@@ -69,7 +72,8 @@ pub fn exit(t: Tables, process: u8, code: i64) -> Change
     if lists::lists_thread(threads, process) {
         return c;
     }
-    c.with_process(q.with_status(Status::Exited(code)).ended()).answered(0)
+    c.with_process(q.with_status(Status::Exited(code)).ended())
+        .answered(0)
 }
 
 // Whether job j is job i or an ancestor of it.

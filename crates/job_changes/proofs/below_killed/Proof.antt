@@ -14,4 +14,5 @@ below-killed-spec =
     (λ c. search needs)
     (λ c κs. search needs)
     (λ c.
-    ap (λ (v : Job). v .killed) (c .job-in .ensures) ∙ ap (belowKilled _) (sym (c .before .before .parent .given .1))))
+    ap (λ (v : Job). v .killed) (c .job-in .ensures)
+    ∙ ap (belowKilled _) (sym (c .before .before .parent .given .1))))

@@ -14,7 +14,8 @@ create-child-spec =
     (λ c.
     let i = c .before in
     let n = i .before in
-    λ _. past-job _ _ _ (n .before .unchanged .ensures) (n .unchanged2 .ensures) (i .if1 .taken) (c .answered .ensures))
+    λ _. past-job _ _ _ (n .before .unchanged .ensures) (n .unchanged2 .ensures)
+    (i .if1 .taken) (c .answered .ensures))
     (λ c κs. search needs)
     (λ c.
     let i = c .before in
@@ -65,7 +66,11 @@ create-child-spec =
     let b = m .before .before .before in
     let a = b .before in
     let n = a .before in
-    let r = simp (c .before .with-inherited .ensures, w .with-job .ensures, v .new .ensures, o .merge .ensures)
-    at (c .answered6 .ensures) in
+    let r = simp (
+      c .before .with-inherited .ensures,
+      w .with-job .ensures,
+      v .new .ensures,
+      o .merge .ensures,
+    ) at (c .answered6 .ensures) in
     λ _. creates _ _ _ (n .before .unchanged .ensures) (n .unchanged2 .ensures)
     (a .if1 .left) (b .if2 .left) (not-false _ (m .if3 .left)) (f .if4 .left) (i .if5 .left) r))

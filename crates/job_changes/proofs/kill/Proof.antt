@@ -12,13 +12,21 @@ kill-spec =
     (λ c κs. search needs)
     (λ c. left-open _ _ _ _ _ (c .before .before .before .unchanged .ensures))
     (λ c. left-open _ _ _ _ _ (c .before .before .before .before .before .before .unchanged .ensures))
-    (λ c. left-open _ _ _ _ _ (c .before .before .before .before .before .before .before .unchanged .ensures))
+    (λ c.
+    let b = c .before .before .before in
+    left-open _ _ _ _ _ (b .before .before .before .before .unchanged .ensures))
     (λ c κs. search needs)
-    (λ c. left-open _ _ _ _ _ (c .before .before .before .before .before .before .before .before .before .unchanged .ensures))
+    (λ c.
+    let b = c .before .before .before .before in
+    left-open _ _ _ _ _ (b .before .before .before .before .before .unchanged .ensures))
     (λ c κs. search needs)
-    (λ c. left-open _ _ _ _ _ (c .before .before .before .before .before .before .before .before .before .before .before .unchanged .ensures))
+    (λ c.
+    let b = c .before .before .before .before .before in
+    left-open _ _ _ _ _ (b .before .before .before .before .before .before .unchanged .ensures))
     (λ c κs. search needs)
-    (λ c. left-open _ _ _ _ _ (c .before .before .before .before .before .before .before .before .before .before .before .before .before .unchanged .ensures))
+    (λ c.
+    let b = c .before .before .before .before .before .before in
+    left-open _ _ _ _ _ (b .before .before .before .before .before .before .before .unchanged .ensures))
     (λ c κs. search needs)
     (λ c κs. search needs)
     (λ c κs. search needs)
@@ -34,7 +42,9 @@ kill-spec =
     let m = k .before in
     let a = m .before .before .before in
     let u = a .before .before .before in
-    let r = simp (w .with-job .ensures, v .terminated .ensures, d .killed .ensures) at (c .answered .ensures) in
+    let r = simp (w .with-job .ensures, v .terminated .ensures, d .killed .ensures)
+    at (c .answered .ensures) in
     λ _. kills _ _ (u .unchanged .ensures) (a .if1 .left) (not-false _ (m .if2 .left)) (k .if3 .left)
-    (told (l .before .lists-child .ensures) (l .if4 .left)) (told (q .before .lists-process .ensures) (q .if5 .left))
+    (told (l .before .lists-child .ensures) (l .if4 .left))
+    (told (q .before .lists-process .ensures) (q .if5 .left))
     (told (b .before .below-killed .ensures) (b .if6 .left)) r))

@@ -22,7 +22,8 @@ Inv-loop jobs j i at₀ step₀ at step =
 abbrev μ-loop : tie.MeasureT-loop
 μ-loop jobs j i at₀ step₀ at step = 32 - step
 
-as-read : {v : Job} {jobs : List Job} (t : Tables) (i : ℕ) → v ≡ getD jobs i noJob → t .jobs ≡ jobs → v ≡ jobAt t i
+as-read : {v : Job} {jobs : List Job} (t : Tables) (i : ℕ) → v ≡ getD jobs i noJob →
+    t .jobs ≡ jobs → v ≡ jobAt t i
 unfolding jobAt
 as-read t i e h = e ∙ ap (λ (l : List Job). getD l i noJob) (sym h)
 

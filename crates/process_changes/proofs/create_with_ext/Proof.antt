@@ -12,8 +12,12 @@ create-with-ext-spec =
     (λ c. left-open _ _ _ _ _ (c .before .unchanged .ensures))
     (λ c. left-open _ _ _ _ _ (c .before .before .unchanged .ensures))
     (λ c. left-open _ _ _ _ _ (c .before .before .before .before .before .unchanged .ensures))
-    (λ c. left-open _ _ _ _ _ (c .before .before .before .before .before .before .before .unchanged .ensures))
-    (λ c. left-open _ _ _ _ _ (c .before .before .before .before .before .before .before .before .unchanged .ensures))
+    (λ c.
+    let b = c .before .before .before in
+    left-open _ _ _ _ _ (b .before .before .before .before .unchanged .ensures))
+    (λ c.
+    let b = c .before .before .before .before in
+    left-open _ _ _ _ _ (b .before .before .before .before .unchanged .ensures))
     (λ c κs. search needs)
     (λ c κs. search needs)
     (λ c κs. search needs)
@@ -27,7 +31,11 @@ create-with-ext-spec =
     let made = k .before .before .before in
     let in-job = made .before .before .before in
     let u = in-job .before .before in
-    let r = simp (c .before .with-fixed .ensures, p .with-process .ensures, n .new .ensures, m .merge .ensures)
-    at (c .answered .ensures) in
+    let r = simp (
+      c .before .with-fixed .ensures,
+      p .with-process .ensures,
+      n .new .ensures,
+      m .merge .ensures,
+    ) at (c .answered .ensures) in
     λ _. creates _ _ _ (u .unchanged .ensures) (in-job .before .if1 .left) (in-job .if2 .left)
     (not-false _ (made .if3 .left)) (k .before .if4 .left) (k .if5 .left) r))

@@ -17,13 +17,21 @@ exit-spec =
     (λ c. left-open _ _ _ _ _ (c .before .before .before .unchanged .ensures))
     (λ c. left-open _ _ _ _ _ (c .before .before .before .before .before .before .unchanged .ensures))
     (λ c κs. search needs)
-    (λ c. left-open _ _ _ _ _ (c .before .before .before .before .before .before .before .before .unchanged .ensures))
+    (λ c.
+    let b = c .before .before .before .before in
+    left-open _ _ _ _ _ (b .before .before .before .before .unchanged .ensures))
     (λ c κs. search needs)
-    (λ c. left-open _ _ _ _ _ (c .before .before .before .before .before .before .before .before .before .before .unchanged .ensures))
+    (λ c.
+    let b = c .before .before .before .before .before in
+    left-open _ _ _ _ _ (b .before .before .before .before .before .unchanged .ensures))
     (λ c κs. search needs)
-    (λ c. left-open _ _ _ _ _ (c .before .before .before .before .before .before .before .before .before .before .before .before .unchanged .ensures))
+    (λ c.
+    let b = c .before .before .before .before .before .before in
+    left-open _ _ _ _ _ (b .before .before .before .before .before .before .unchanged .ensures))
     (λ c κs. search needs)
-    (λ c. left-open _ _ _ _ _ (c .before .before .before .before .before .before .before .before .before .before .before .before .before .before .unchanged .ensures))
+    (λ c.
+    let b = c .before .before .before .before .before .before .before in
+    left-open _ _ _ _ _ (b .before .before .before .before .before .before .before .unchanged .ensures))
     (λ c κs. search needs)
     (λ c κs. search needs)
     (λ c κs. search needs)
@@ -41,7 +49,9 @@ exit-spec =
     let u = a .before .before .before in
     let k = ap (λ (o : Job). o .killed) (sym (j .before .job-in .ensures)) ∙ j .if5 .left in
     let code = toZ-ofZ {w = w64} (u .before .fits .code) in
-    let r = simp (w .with-process .ensures, v .ended .ensures, s .with-status .ensures, code) at (c .answered .ensures) in
+    let r = simp (w .with-process .ensures, v .ended .ensures, s .with-status .ensures, code)
+    at (c .answered .ensures) in
     λ _. exits _ _ _ (u .unchanged .ensures) (a .if1 .left) (not-false _ (m .if2 .left))
-    (told (x .before .is-exited .ensures) (x .if3 .left)) (told (b .before .is-bound .ensures) (b .if4 .left)) k
+    (told (x .before .is-exited .ensures) (x .if3 .left))
+    (told (b .before .is-bound .ensures) (b .if4 .left)) k
     (told (l .before .lists-thread .ensures) (l .if6 .left)) r))

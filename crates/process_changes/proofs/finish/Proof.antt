@@ -13,11 +13,15 @@ finish-spec =
     (λ c. left-open _ _ _ _ _ (c .before .before .unchanged .ensures))
     (λ c. left-open _ _ _ _ _ (c .before .before .before .before .before .unchanged .ensures))
     (λ c κs. search needs)
-    (λ c. left-open _ _ _ _ _ (c .before .before .before .before .before .before .before .unchanged .ensures))
+    (λ c.
+    let b = c .before .before .before in
+    left-open _ _ _ _ _ (b .before .before .before .before .unchanged .ensures))
     (λ c κs. search needs)
     (λ c κs. search needs)
     (λ c κs. search needs)
-    (λ c. left-open _ _ _ _ _ (c .before .before .before .before .before .before .before .before .before .before .before .unchanged .ensures))
+    (λ c.
+    let b = c .before .before .before .before .before in
+    left-open _ _ _ _ _ (b .before .before .before .before .before .before .unchanged .ensures))
     (λ c κs. search needs)
     (λ c κs. search needs)
     (λ c.

@@ -13,10 +13,16 @@ set-critical-at-job-spec =
     (λ c. left-open _ _ _ _ _ (c .before .before .unchanged .ensures))
     (λ c. left-open _ _ _ _ _ (c .before .before .before .unchanged .ensures))
     (λ c. left-open _ _ _ _ _ (c .before .before .before .before .unchanged .ensures))
-    (λ c. left-open _ _ _ _ _ (c .before .before .before .before .before .before .before .unchanged .ensures))
-    (λ c. left-open _ _ _ _ _ (c .before .before .before .before .before .before .before .before .before .before .unchanged .ensures))
+    (λ c.
+    let b = c .before .before .before in
+    left-open _ _ _ _ _ (b .before .before .before .before .unchanged .ensures))
+    (λ c.
+    let b = c .before .before .before .before .before in
+    left-open _ _ _ _ _ (b .before .before .before .before .before .unchanged .ensures))
     (λ c κs. search needs)
-    (λ c. left-open _ _ _ _ _ (c .before .before .before .before .before .before .before .before .before .before .before .before .unchanged .ensures))
+    (λ c.
+    let b = c .before .before .before .before .before .before in
+    left-open _ _ _ _ _ (b .before .before .before .before .before .before .unchanged .ensures))
     (λ c κs. search needs)
     (λ c κs. search needs)
     (λ c.
@@ -28,8 +34,9 @@ set-critical-at-job-spec =
     let b = d .before in
     let a = b .before in
     λ _. denies _ _ _ _ (a .before .before .unchanged .ensures) (a .if1 .left) (b .if2 .left) (d .if3 .left)
-    (not-false _ (m .if4 .left)) (not-false _ (n .if5 .left)) (told (k .before .is-bound .ensures) (k .if6 .left))
-    (i .at-or-above .ensures) (not-true _ (c .before .if7 .taken)) (c .answered .ensures))
+    (not-false _ (m .if4 .left)) (not-false _ (n .if5 .left))
+    (told (k .before .is-bound .ensures) (k .if6 .left)) (i .at-or-above .ensures)
+    (not-true _ (c .before .if7 .taken)) (c .answered .ensures))
     (λ c κs. search needs)
     (λ c κs. search needs)
     (λ c κs. search needs)
@@ -45,5 +52,6 @@ set-critical-at-job-spec =
     let b = d .before in
     let a = b .before in
     λ _. binds _ _ _ _ (a .before .before .unchanged .ensures) (a .if1 .left) (b .if2 .left) (d .if3 .left)
-    (not-false _ (m .if4 .left)) (not-false _ (n .if5 .left)) (told (k .before .is-bound .ensures) (k .if6 .left))
-    (i .at-or-above .ensures) (not-false _ (v .before .if7 .left)) r))
+    (not-false _ (m .if4 .left)) (not-false _ (n .if5 .left))
+    (told (k .before .is-bound .ensures) (k .if6 .left)) (i .at-or-above .ensures)
+    (not-false _ (v .before .if7 .left)) r))
