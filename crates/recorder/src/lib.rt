@@ -134,6 +134,11 @@ pub fn feed(state: State, input: &[u8], out: &mut [u8]) -> Fed
                         t.fixed[y] = fixed;
                         t.threads[z] = thread;
                         t.tokens[w] = token;
+                        if c.each != 0 {
+                            let threads = t.threads;
+                            let changed = lists::each_thread(threads, c.p, c.each);
+                            t.threads = changed;
+                        }
                     } else {
                         let r = calls::perform(t, command);
                         let fields = r.fields;
