@@ -1,12 +1,12 @@
--- How the change that delivers an exception meets the call's definition. s is the search over the tables, g what the
--- records said of it. Assumes nothing.
+-- How the change that delivers an exception meets the call's definition. s is the search over the tables, g
+-- what the records said of it. Assumes nothing.
 use Prim.Native.Nat.{ℕ, _<_, _%_}
 use mathlib.Core.Path.{_≡_, refl, sym, ap, _∙_, subst}
 use mathlib.Core.Logic.{_≢_}
 use mathlib.Core.Bool.{Bool, true, false, not}
 use native.Mathlib.Omega.{arith}
 use borrow.Author.Tests.{lt-leb, ne-eqb}
-use lib.Dec.{eqb, leb}
+use lib.Dec.{eqb}
 use lib.IntN.{ℤ, pos}
 use Rattle.laws.specs.Choice.{if_then_else_}
 use Rattle.laws.proofs.Cases.{no-both, by}
@@ -24,7 +24,7 @@ use Rattle.record_thread.specs.declared.FoundException.the-variants.{Held}
 use Rattle.record_thread.specs.declared.Thread.{Thread}
 use Rattle.record_thread.specs.Thread.{BLOCKED-EXCEPTION, waits, endWait, isFree, exceptionOf}
 use Rattle.records.specs.declared.tables.Tables.{Tables}
-use Rattle.records.specs.declared.tables.FoundThread.the-variants.{NoThread, OldThread}
+use Rattle.records.specs.declared.tables.FoundThread.the-variants.{OldThread}
 use Rattle.records.specs.declared.reply.Fields.{Fields}
 use Rattle.records.specs.declared.reply.Fields.the-variants.{OwnerField}
 use Rattle.records.specs.declared.reply.Reply.{Reply}
@@ -33,8 +33,8 @@ use Rattle.records.specs.Tables.{jobAt, processAt, threadAt, putThread, foundTh
 use Rattle.model.specs.declared.Handler.the-variants.{HandlerAt}
 use Rattle.model.specs.declared.Route.{Route}
 use Rattle.model.specs.declared.Search.{Search}
-use Rattle.model.specs.Exception.{isSynth, isNoType, routeOf, processOf, ownerOf, noHandler, searchUp, firstHandler}
-use Rattle.model.specs.Exception.{nextHandler, unhandled, deliver, delivered, raise, close}
+use Rattle.model.specs.Exception.{isSynth, isNoType, routeOf, processOf, ownerOf, noHandler, searchUp}
+use Rattle.model.specs.Exception.{firstHandler, nextHandler, unhandled, deliver, delivered, raise, close}
 use Rattle.model.specs.ExceptionCalls.{raiseException, closeException}
 use Rattle.model.proofs.Answering.{accepts, the-thread, the-exception}
 use Rattle.exception.specs.Places.{jobPlace}
@@ -44,7 +44,8 @@ use Rattle.change.specs.Change as defs
 use Rattle.change.proofs.Storing.{job-read, process-read, thread-read, stores-thread}
 use Rattle.exception_changes.specs.declared.Goes.{Goes}
 use Rattle.exception_changes.specs.declared.Goes.the-variants.{To, Nowhere, Passing, Up}
-use Rattle.exception_changes.specs.Goes.{Means, firstGoes, nextGoes, jobOf, goesUp, ownerIn, waitsAt, endsNowhere, delivers}
+use Rattle.exception_changes.specs.Goes.{Means, firstGoes, nextGoes, jobOf, goesUp}
+use Rattle.exception_changes.specs.Goes.{ownerIn, waitsAt, endsNowhere, delivers}
 use Rattle.exception_changes.proofs.Meaning.{up-means, first-means, next-means}
 
 -- a return that leaves the call open says nothing of it
@@ -79,11 +80,8 @@ module _ (t : Tables) (j p n : ℕ) {c : Change} (e : c ≡ defs.unchanged t j p
       defs.stored t r ≡ delivered (record { tables = t; at = HandlerAt q }) n kind b
   unfolding deliver
   waiting q kind b g =
-      let o : ownerIn (c .thread) n q ≡ ownerOf t n q =
-      ap (λ (v : Thread). ownerIn v n q) (thread-read t j p n 0 e h) ∙ owner-is t n q in
       stores (λ v. waits v BLOCKED-EXCEPTION (InException (exceptionAt kind q b))) (pos (levelOf q)) _ g
-      ∙ ap (λ (i : ℕ). reply (putThread t n
-      (waits (threadAt t n) BLOCKED-EXCEPTION (InException (exceptionAt kind q b)))) (pos (levelOf q)) (OwnerField i)) o
+      ∙ rw (thread-read t j p n 0 e h, owner-is t n q)
 
   ending : {r : Change} (kind : ℕ) (b : Bool) → r ≡ endsNowhere c kind → r .whole ≡ true →
       defs.stored t r ≡ delivered (noHandler t) n kind b
@@ -125,17 +123,19 @@ module _ (t : Tables) (j n : ℕ) {o : Change} (d : o ≡ defs.unchanged t 0 0 n
   thread-is = thread-read t 0 0 n 0 d h
 
   process-is : c .process ≡ processAt t (processOf t n)
-  process-is = process-read t j (o .thread .process) n 0 e i ∙ ap (λ (v : Thread). processAt t (v .process)) thread-is
+  process-is =
+      process-read t j (o .thread .process) n 0 e i ∙ ap (λ (v : Thread). processAt t (v .process)) thread-is
 
   found : foundThread t n ≡ OldThread (o .thread)
   unfolding foundThread if_then_else_
   found = rw (← thread-is, granted (o .thread .made) m)
 
   -- the exception raised, g what the thread and its process say of it
-  module _ (kind : ℕ) {route : Route} (a : route ≡ routeOf kind) {b : Bool} (f : b ≡ isNoType route) (l : b ≡ false)
-      {x : Bool} (y : x ≡ isFree (o .thread)) (z : not x ≡ false) (k : kind ≢ 0x8108) (w : o .thread .state ≢ 4)
-      {g : Goes} (q : g ≡ firstGoes route (o .thread) (c .process)) where
-    raises : {r : Reply} → r ≡ delivered (firstHandler (routeOf kind) t n) n kind false → r ≡ raiseException t n kind
+  module _ (kind : ℕ) {route : Route} (a : route ≡ routeOf kind) {b : Bool} (f : b ≡ isNoType route)
+      (l : b ≡ false) {x : Bool} (y : x ≡ isFree (o .thread)) (z : not x ≡ false) (k : kind ≢ 0x8108)
+      (w : o .thread .state ≢ 4) {g : Goes} (q : g ≡ firstGoes route (o .thread) (c .process)) where
+    raises : {r : Reply} → r ≡ delivered (firstHandler (routeOf kind) t n) n kind false →
+        r ≡ raiseException t n kind
     unfolding raiseException raise
     raises s =
         let u : eqb (threadAt t n .state) 4 ≡ false = rw (← thread-is) (ne-eqb _ _ w) in
@@ -147,10 +147,12 @@ module _ (t : Tables) (j n : ℕ) {o : Change} (d : o ≡ defs.unchanged t 0 0 n
 
     means : Means t n (firstHandler (routeOf kind) t n) g
     means =
-        subst (Means t n (firstHandler (routeOf kind) t n)) (sym (q ∙ ap (λ (r : Route). firstGoes r (o .thread) (c .process)) a))
+        let s : g ≡ firstGoes (routeOf kind) (o .thread) (c .process) = rw (← a) q in
+        subst (Means t n (firstHandler (routeOf kind) t n)) (sym s)
         (first-means t n thread-is process-is (routeOf kind))
 
-    pub raised : {r : Change} → r ≡ delivers c g n kind false → r .whole ≡ true → defs.stored t r ≡ raiseException t n kind
+    pub raised : {r : Change} → r ≡ delivers c g n kind false → r .whole ≡ true →
+        defs.stored t r ≡ raiseException t n kind
     raised s p = raises (comes-to t j (o .thread .process) n e h _ g kind false means s p)
 
     pub raised-up : {r : Change} {u : Goes} (v : Bool) (i : ℕ) → g ≡ Up v i → u ≡ goesUp 32 v (t .jobs) i →
@@ -163,7 +165,8 @@ module _ (t : Tables) (j n : ℕ) {o : Change} (d : o ≡ defs.unchanged t 0 0 n
   module _ {x : FoundException} (y : Exception) (f : x ≡ exceptionOf (o .thread)) (l : x ≡ Held y) {b : Bool}
       (a : b ≡ isOver y) (k : b ≡ false) (q : j ≡ jobOf (y .place)) (w : j < 32)
       {g : Goes} (z : g ≡ nextGoes (y .place) y (c .job) (o .thread) (c .process)) where
-    closes : {r : Reply} → r ≡ delivered (nextHandler (y .place) t n y) n (y .kind) (y .second) → r ≡ closeException t n
+    closes : {r : Reply} → r ≡ delivered (nextHandler (y .place) t n y) n (y .kind) (y .second) →
+        r ≡ closeException t n
     unfolding closeException close
     closes s =
         passes _ _ _ (lt-leb _ _ h)

@@ -1,10 +1,9 @@
--- What is worked out from records is what the search over the tables comes to, where no hung-up level is passed.
--- Assumes nothing.
+-- What is worked out from records is what the search over the tables comes to, where no hung-up level is
+-- passed. Assumes nothing.
 use Prim.Native.Nat.{ℕ, zero, suc}
 use mathlib.Core.Path.{_≡_, refl, sym, ap, _∙_, subst}
 use mathlib.Core.Bool.{Bool, true, false}
 use lib.IntN.{pos}
-use lib.ListN.{getD}
 use lib.Seq.{set-getD}
 use mir.Syntax.{w64}
 use mir.Val.{toZ}
@@ -36,9 +35,10 @@ use Rattle.model.specs.declared.Search.{Search}
 use Rattle.model.specs.Job.{onParent}
 use Rattle.model.specs.Exception as model
 use Rattle.model.specs.Exception.{processOf, levelAt, putLevelAt, passOver, noHandler, tryAt, searchUp}
+use Rattle.model.specs.Exception.{ownJob}
 use Rattle.exception.specs.Places.{jobPlace}
 use Rattle.exception_changes.specs.declared.Goes.{Goes}
-use Rattle.exception_changes.specs.declared.Goes.the-variants.{To, Nowhere, Passing, Up}
+use Rattle.exception_changes.specs.declared.Goes.the-variants.{To, Nowhere, Up}
 use Rattle.exception_changes.specs.Goes.{Means, goesAt, levelIn, goesUp, fromSecond, fromProcess}
 use Rattle.exception_changes.specs.Goes.{fromThread, fromDebugger, firstGoes, aboveGoes}
 use Rattle.exception_changes.specs.Goes.{afterDebugger, nextGoes, jobOf}
@@ -90,7 +90,8 @@ module _ (t : Tables) (n : ℕ) where
   goes-on p k g b e m =
       subst (λ (s : Search). Means t n s g) (sym (rw (b, passed p e))) m
 
-  taken : (p : Place) (k : Tables → Search) → isBound (levelAt t n p) ≡ true → Means t n (tryAt t n p k) (To p)
+  taken : (p : Place) (k : Tables → Search) → isBound (levelAt t n p) ≡ true →
+      Means t n (tryAt t n p k) (To p)
   unfolding tryAt ite
   taken p k b = rw b
 
@@ -123,46 +124,51 @@ module _ (t : Tables) (n : ℕ) where
   unfolding searchUp goesUp jobAt
   up-means zero d j = refl
   up-means (suc k) d j =
-      at-level t n (jobPlace d j) (λ u. onParent (jobAt u j .parent) (noHandler u) λ i. searchUp k (jobPlace d) u n i)
+      at-level t n (jobPlace d j)
+      (λ u. onParent (jobAt u j .parent) (noHandler u) λ i. searchUp k (jobPlace d) u n i)
       _ (level-is d j)
       (parent-means (jobAt t j .parent) _ _ λ i. up-means k d i)
 
 -- ---- The thread and its process ----------------------------------------------------------------
 
-module _ (t : Tables) (n : ℕ) {v : Thread} {q : Process} (e : v ≡ threadAt t n) (f : q ≡ processAt t (processOf t n)) where
-  level1-is : (p : Place) → levelAt t n Debugger ≡ levelAt t n p → q .level1 ≡ levelAt t n p
-  unfolding levelAt
-  level1-is p h = ap (λ (x : Process). x .level1) f ∙ h
+module _ (t : Tables) (n : ℕ) {v : Thread} {q : Process} (e : v ≡ threadAt t n)
+    (f : q ≡ processAt t (processOf t n)) where
+  level1-is : q .level1 ≡ processAt t (processOf t n) .level1
+  level1-is = ap (λ (x : Process). x .level1) f
 
-  jobs-mean : (d : Bool) → Means t n (searchUp 32 (jobPlace d) t n (processAt t (processOf t n) .job)) (Up d (q .job))
+  level3-is : q .level3 ≡ processAt t (processOf t n) .level3
+  level3-is = ap (λ (x : Process). x .level3) f
+
+  level2-is : v .level2 ≡ threadAt t n .level2
+  level2-is = ap (λ (x : Thread). x .level2) e
+
+  jobs-mean : (d : Bool) → Means t n (searchUp 32 (jobPlace d) t n (ownJob t n)) (Up d (q .job))
   jobs-mean d = ap (λ (x : Process). searchUp 32 (jobPlace d) t n (x .job)) (sym f)
 
   second-means : (b : Bool) → Means t n (model.fromSecondChance t n b) (fromSecond q b)
   unfolding model.fromSecondChance model.fromJobs fromSecond if_then_else_ levelAt
   second-means true =
-      at-level t n SecondChance (λ u. model.fromJobs u n) (Up false (q .job)) (ap (λ (x : Process). x .level1) f) (jobs-mean false)
+      at-level t n SecondChance (λ u. model.fromJobs u n) (Up false (q .job)) level1-is (jobs-mean false)
   second-means false = jobs-mean false
 
   process-means : (b : Bool) → Means t n (model.fromProcess t n b) (fromProcess q b)
   unfolding model.fromProcess fromProcess levelAt
   process-means b =
-      at-level t n OwnProcess (λ u. model.fromSecondChance u n b) _ (ap (λ (x : Process). x .level3) f) (second-means b)
+      at-level t n OwnProcess (λ u. model.fromSecondChance u n b) _ level3-is (second-means b)
 
   thread-means : (b : Bool) → Means t n (model.fromThread t n b) (fromThread v q b)
   unfolding model.fromThread fromThread levelAt
-  thread-means b =
-      at-level t n OwnThread (λ u. model.fromProcess u n b) _ (ap (λ (x : Thread). x .level2) e) (process-means b)
+  thread-means b = at-level t n OwnThread (λ u. model.fromProcess u n b) _ level2-is (process-means b)
 
   debugger-means : (b : Bool) → Means t n (model.fromDebugger t n b) (fromDebugger v q b)
   unfolding model.fromDebugger fromDebugger levelAt
-  debugger-means b =
-      at-level t n Debugger (λ u. model.fromThread u n b) _ (ap (λ (x : Process). x .level1) f) (thread-means b)
+  debugger-means b = at-level t n Debugger (λ u. model.fromThread u n b) _ level1-is (thread-means b)
 
   pub first-means : (r : Route) → Means t n (model.firstHandler r t n) (firstGoes r v q)
   unfolding model.firstHandler firstGoes levelAt
   first-means Ordinary = debugger-means false
   first-means JobDebuggers = jobs-mean true
-  first-means DebuggerOnly = at-level t n Debugger noHandler Nowhere (ap (λ (x : Process). x .level1) f) refl
+  first-means DebuggerOnly = at-level t n Debugger noHandler Nowhere level1-is refl
   first-means ToExiting = refl
   first-means NoType = refl
 
@@ -171,15 +177,19 @@ module _ (t : Tables) (n : ℕ) {v : Thread} {q : Process} (e : v ≡ threadAt t
   unfolding afterDebugger if_then_else_
   after-means kind b = go (kind =? 0x8008)
     where
-      go : (a : Bool) → Means t n (if a then noHandler t else model.fromThread t n b) (if a then Nowhere else fromThread v q b)
+      go : (a : Bool) →
+          Means t n (if a then noHandler t else model.fromThread t n b)
+          (if a then Nowhere else fromThread v q b)
       go true = refl
       go false = thread-means b
 
-  above-means : (j : ℕ) {w : Job} → w ≡ jobAt t j →
-      Means t n (onParent (jobAt t j .parent) (noHandler t) λ i. searchUp 32 OfJob t n i) (aboveGoes w)
+  abbrev above : Job → Search
+  above w = onParent (w .parent) (noHandler t) λ i. searchUp 32 OfJob t n i
+
+  above-means : (j : ℕ) {w : Job} → w ≡ jobAt t j → Means t n (above (jobAt t j)) (aboveGoes w)
   unfolding aboveGoes
   above-means j {w} g =
-      subst (λ (x : Job). Means t n (onParent (x .parent) (noHandler t) λ i. searchUp 32 OfJob t n i) (aboveGoes w)) g
+      subst (λ (x : Job). Means t n (above x) (aboveGoes w)) g
       (parent-means t n (w .parent) _ _ λ i. refl)
 
   pub next-means : (p : Place) (x : Exception) {w : Job} → w ≡ jobAt t (jobOf p) →

@@ -1,5 +1,5 @@
--- The search upward over the jobs alone, along the ways of the code. m counts the jobs left, k those after this one.
--- Assumes nothing.
+-- The search upward over the jobs alone, along the ways of the code. m counts the jobs left, k those after
+-- this one. Assumes nothing.
 use Prim.Native.Nat.{ℕ, suc, _≤_}
 use mathlib.Core.Path.{_≡_, refl, sym, ap, _∙_}
 use mathlib.Core.Bool.{Bool, true, false}
@@ -75,7 +75,8 @@ module _ (k m : ℕ) (s : suc k ≡ m) (d : Bool) (jobs : List Job) (j : ℕ) wh
     read : goesAt l (jobPlace d j) after ≡ goesUp m d jobs j
     read = ap (λ (x : Level). goesAt x (jobPlace d j) after) e ∙ steps
 
-    pub up-bound : {b : Bool} {p : Place} → b ≡ isBound l → b ≡ true → p ≡ jobPlace d j → To p ≡ goesUp m d jobs j
+    pub up-bound : {b : Bool} {p : Place} → b ≡ isBound l → b ≡ true → p ≡ jobPlace d j →
+        To p ≡ goesUp m d jobs j
     up-bound f g q = ap (λ (x : Place). To x) q ∙ at-bound l (jobPlace d j) after (sym f ∙ g) ∙ read
 
     pub up-hung : {b : Bool} → b ≡ isHungUp l → b ≡ true → Passing ≡ goesUp m d jobs j

@@ -1,11 +1,12 @@
-// exception_changes: raising and closing an exception, where no hung-up level is passed and no process exits: the
-// thread alone changes. Follows exception.rs. What is left open may change more.
+// exception_changes: raising and closing an exception, where no hung-up level is passed and no process exits:
+// the thread alone changes. Follows exception.rs. What is left open may change more.
 ghost use mathlib.Core.Path.{_≡_};
 ghost use Rattle.model.specs.ExceptionCalls.{raiseException, closeException};
 ghost use Rattle.change.specs.Change.{Comes};
-ghost use Rattle.exception_changes.specs.Goes.{goesAt, fromSecond, fromProcess, fromThread, fromDebugger};
-ghost use Rattle.exception_changes.specs.Goes.{firstGoes, aboveGoes, afterDebugger, nextGoes, jobOf, goesUp};
-ghost use Rattle.exception_changes.specs.Goes.{isHungUp, levelIn, ownerIn, waitsAt, endsNowhere, delivers};
+ghost use Rattle.exception_changes.specs.Goes.{goesAt, fromSecond, fromProcess, fromThread};
+ghost use Rattle.exception_changes.specs.Goes.{fromDebugger, firstGoes, aboveGoes, afterDebugger};
+ghost use Rattle.exception_changes.specs.Goes.{nextGoes, jobOf, isHungUp, levelIn, goesUp};
+ghost use Rattle.exception_changes.specs.Goes.{ownerIn, waitsAt, endsNowhere, delivers};
 ghost use Rattle.exception_changes.specs.declared.Goes as Goes;
 ghost use Rattle.record_exception.specs.declared.Place as Place;
 ghost use Rattle.exception.specs.Places.{jobPlace};

@@ -15,11 +15,19 @@ close-spec =
     (λ c κs. search needs)
     (λ c κs. search needs)
     (λ c p. nothing-said _ _ _ _ _ (c .before .before .before .unchanged2 .ensures) p)
-    (λ c p. nothing-said _ _ _ _ _ (c .before .before .before .before .before .unchanged2 .ensures) p)
-    (λ c p. nothing-said _ _ _ _ _ (c .before .before .before .before .before .before .unchanged2 .ensures) p)
-    (λ c p. nothing-said _ _ _ _ _ (c .before .before .before .before .before .before .before .before .unchanged2 .ensures) p)
+    (λ c p.
+    let u = c .before .before .before .before .before in
+    nothing-said _ _ _ _ _ (u .unchanged2 .ensures) p)
+    (λ c p.
+    let u = c .before .before .before .before .before .before in
+    nothing-said _ _ _ _ _ (u .unchanged2 .ensures) p)
+    (λ c p.
+    let u = c .before .before .before .before .before .before .before .before in
+    nothing-said _ _ _ _ _ (u .unchanged2 .ensures) p)
     (λ c κs. search needs)
-    (λ c p. nothing-said _ _ _ _ _ (c .before .before .before .before .before .before .before .before .before .before .unchanged2 .ensures) p)
+    (λ c p.
+    let u = c .before .before .before .before .before .before .before .before .before .before in
+    nothing-said _ _ _ _ _ (u .unchanged2 .ensures) p)
     (λ c κs. search needs)
     (λ c. search needs)
     (λ c κs. search needs)
@@ -35,9 +43,9 @@ close-spec =
     let j = e .before in
     let k = j .before .before in
     let x = k .before .before in
-    closed _ _ _ (x .before .before .unchanged .ensures) (e .unchanged2 .ensures) (h .if1 .left) (i .if2 .left)
-    (m .if4 .left) _ (x .exception .ensures) (k .e .given .1) (a .is-over .ensures) (s .if5 .left)
-    (j .job-of .ensures) (w .if3 .left) (g .next-goes .ensures) (c .deliver .ensures) p)
+    closed _ _ _ (x .before .before .unchanged .ensures) (e .unchanged2 .ensures) (h .if1 .left)
+    (i .if2 .left) (m .if4 .left) _ (x .exception .ensures) (k .e .given .1) (a .is-over .ensures)
+    (s .if5 .left) (j .job-of .ensures) (w .if3 .left) (g .next-goes .ensures) (c .deliver .ensures) p)
     (λ c κs. search needs)
     (λ c κs. search needs)
     (λ c p.
@@ -54,7 +62,7 @@ close-spec =
     let j = e .before in
     let k = j .before .before in
     let x = k .before .before in
-    closed-up _ _ _ (x .before .before .unchanged .ensures) (e .unchanged2 .ensures) (h .if1 .left) (i .if2 .left)
-    (m .if4 .left) _ (x .exception .ensures) (k .e .given .1) (a .is-over .ensures) (s .if5 .left)
-    (j .job-of .ensures) (w .if3 .left) (g .next-goes .ensures)
+    closed-up _ _ _ (x .before .before .unchanged .ensures) (e .unchanged2 .ensures) (h .if1 .left)
+    (i .if2 .left) (m .if4 .left) _ (x .exception .ensures) (k .e .given .1) (a .is-over .ensures)
+    (s .if5 .left) (j .job-of .ensures) (w .if3 .left) (g .next-goes .ensures)
     _ _ (v .goes .given .1) (u .search-up .ensures) (c .deliver2 .ensures) p))

@@ -67,7 +67,8 @@ search-up-spec =
     let n : ℕ = 32 - (l .step + 1) in
     let s : suc n ≡ 32 - l .step = omega arith in
     up-orphan n _ s _ _ _ (b .before .job-level .ensures)
-    (b .is-bound .ensures) (h .before .if2 .left) (h .is-hung-up .ensures) (e .if3 .left) (c .enum-told .given .1)
+    (b .is-bound .ensures) (h .before .if2 .left) (h .is-hung-up .ensures) (e .if3 .left)
+    (c .enum-told .given .1)
     ∙ l .inv .0)
     (λ c. search needs)
     (λ c. omega arith)
@@ -83,7 +84,8 @@ search-up-spec =
     let n : ℕ = 32 - (l .step + 1) in
     let s : suc n ≡ 32 - l .step = omega arith in (
       up-goes n _ s _ _ _ (b .before .job-level .ensures)
-          (b .is-bound .ensures) (h .before .if2 .left) (h .is-hung-up .ensures) (e .if3 .left) (p .parent .given .1)
+          (b .is-bound .ensures) (h .before .if2 .left) (h .is-hung-up .ensures) (e .if3 .left)
+          (p .parent .given .1)
           ∙ l .inv .0,
       omega arith,
       l .inv .2,
