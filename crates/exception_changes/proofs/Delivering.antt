@@ -1,0 +1,189 @@
+-- How the change that delivers an exception meets the call's definition. s is the search over the tables, g
+-- what the records said of it. Assumes nothing.
+use Prim.Native.Nat.{ℕ, _<_, _%_}
+use mathlib.Core.Path.{_≡_, refl, sym, ap, _∙_, subst}
+use mathlib.Core.Logic.{_≢_}
+use mathlib.Core.Bool.{Bool, true, false, not}
+use native.Mathlib.Omega.{arith}
+use borrow.Author.Tests.{lt-leb, ne-eqb}
+use lib.Dec.{eqb}
+use lib.IntN.{ℤ, pos}
+use Rattle.laws.specs.Choice.{if_then_else_}
+use Rattle.laws.proofs.Cases.{no-both, by}
+use Rattle.laws.proofs.Flow.{passes, second, told-not}
+use Rattle.error.specs.Numbers.{NEXT}
+use Rattle.record_exception.specs.declared.Place.{Place}
+use Rattle.record_exception.specs.declared.Place.the-variants.{Debugger, OwnThread, OwnProcess}
+use Rattle.record_exception.specs.declared.Place.the-variants.{SecondChance, OfJob, OfJobDebugger}
+use Rattle.record_exception.specs.declared.Place.the-variants.{Exiting}
+use Rattle.record_exception.specs.declared.Exception.{Exception}
+use Rattle.record_exception.specs.Exception.{levelOf, exceptionAt}
+use Rattle.record_thread.specs.declared.Waiting.the-variants.{InException}
+use Rattle.record_thread.specs.declared.FoundException.{FoundException}
+use Rattle.record_thread.specs.declared.FoundException.the-variants.{Held}
+use Rattle.record_thread.specs.declared.Thread.{Thread}
+use Rattle.record_thread.specs.Thread.{BLOCKED-EXCEPTION, waits, endWait, isFree, exceptionOf}
+use Rattle.records.specs.declared.tables.Tables.{Tables}
+use Rattle.records.specs.declared.tables.FoundThread.the-variants.{OldThread}
+use Rattle.records.specs.declared.reply.Fields.{Fields}
+use Rattle.records.specs.declared.reply.Fields.the-variants.{OwnerField}
+use Rattle.records.specs.declared.reply.Reply.{Reply}
+use Rattle.records.specs.Reply.{reply}
+use Rattle.records.specs.Tables.{jobAt, processAt, threadAt, putThread, foundThread}
+use Rattle.model.specs.declared.Handler.the-variants.{HandlerAt}
+use Rattle.model.specs.declared.Route.{Route}
+use Rattle.model.specs.declared.Search.{Search}
+use Rattle.model.specs.Exception.{isSynth, isNoType, routeOf, processOf, ownerOf, noHandler, searchUp}
+use Rattle.model.specs.Exception.{firstHandler, nextHandler, unhandled, deliver, delivered, raise, close}
+use Rattle.model.specs.ExceptionCalls.{raiseException, closeException}
+use Rattle.model.proofs.Answering.{accepts, the-thread, the-exception}
+use Rattle.exception.specs.Places.{jobPlace}
+use Rattle.on_raise.specs.OnRaise.{isOver}
+use Rattle.change.specs.declared.Change.{Change}
+use Rattle.change.specs.Change as defs
+use Rattle.change.proofs.Storing.{job-read, process-read, thread-read, stores-thread}
+use Rattle.exception_changes.specs.declared.Goes.{Goes}
+use Rattle.exception_changes.specs.declared.Goes.the-variants.{To, Nowhere, Passing, Up}
+use Rattle.exception_changes.specs.Goes.{Means, firstGoes, nextGoes, jobOf, goesUp}
+use Rattle.exception_changes.specs.Goes.{ownerIn, waitsAt, endsNowhere, delivers}
+use Rattle.exception_changes.proofs.Meaning.{up-means, first-means, next-means}
+
+-- a return that leaves the call open says nothing of it
+pub nothing-said : {A : Type 0} {c : Change} (t : Tables) (j p n k : ℕ) →
+    c ≡ defs.unchanged t j p n k → c .whole ≡ true → A
+unfolding defs.unchanged
+nothing-said t j p n k e h = no-both h (ap (λ (x : Change). x .whole) e)
+
+-- ---- The change ------------------------------------------------------------------------------
+
+pub owner-is : (t : Tables) (n : ℕ) (p : Place) → ownerIn (threadAt t n) n p ≡ ownerOf t n p
+unfolding ownerOf
+owner-is t n Debugger = refl
+owner-is t n OwnThread = refl
+owner-is t n OwnProcess = refl
+owner-is t n SecondChance = refl
+owner-is t n (OfJob j) = refl
+owner-is t n (OfJobDebugger j) = refl
+owner-is t n Exiting = refl
+
+module _ (t : Tables) (j p n : ℕ) {c : Change} (e : c ≡ defs.unchanged t j p n 0) (h : n < 128) where
+  -- the thread's record alone is stored
+  stores : {r : Change} (f : Thread → Thread) (a : ℤ) (x : Fields) →
+      r ≡ defs.shown (defs.withThread c (f (c .thread))) a x →
+      defs.stored t r ≡ reply (putThread t n (f (threadAt t n))) a x
+  stores f a x g =
+      let m : n % 128 ≡ n = omega arith in
+      stores-thread t j p n 0 e (f (c .thread)) a x g
+      ∙ rw (m, thread-read t j p n 0 e h)
+
+  waiting : {r : Change} (q : Place) (kind : ℕ) (b : Bool) → r ≡ waitsAt c q n kind b →
+      defs.stored t r ≡ delivered (record { tables = t; at = HandlerAt q }) n kind b
+  unfolding deliver
+  waiting q kind b g =
+      stores (λ v. waits v BLOCKED-EXCEPTION (InException (exceptionAt kind q b))) (pos (levelOf q)) _ g
+      ∙ rw (thread-read t j p n 0 e h, owner-is t n q)
+
+  ending : {r : Change} (kind : ℕ) (b : Bool) → r ≡ endsNowhere c kind → r .whole ≡ true →
+      defs.stored t r ≡ delivered (noHandler t) n kind b
+  unfolding deliver unhandled endsNowhere if_then_else_
+  ending {r} kind b g w =
+      by (isSynth kind)
+      (λ y. stores endWait NEXT (OwnerField 0) (rw y at g) ∙ rw y)
+      (λ y. nothing-said t j p n 0 e (sym (ap (λ (x : Change). x .whole) (rw y at g)) ∙ w))
+
+  pub comes-to : (s : Search) (g : Goes) (kind : ℕ) (b : Bool) {r : Change} → Means t n s g →
+      r ≡ delivers c g n kind b → r .whole ≡ true → defs.stored t r ≡ delivered s n kind b
+  unfolding delivers
+  comes-to s g kind b {r} m x w = go g m x
+    where
+      go : (g : Goes) → Means t n s g → r ≡ delivers c g n kind b → defs.stored t r ≡ delivered s n kind b
+      go (To q) m x = waiting q kind b x ∙ ap (λ (u : Search). delivered u n kind b) (sym m)
+      go Nowhere m x = ending kind b x w ∙ ap (λ (u : Search). delivered u n kind b) (sym m)
+      go Passing m x = nothing-said t j p n 0 e (sym (ap (λ (u : Change). u .whole) x) ∙ w)
+      go (Up d i) m x = nothing-said t j p n 0 e (sym (ap (λ (u : Change). u .whole) x) ∙ w)
+
+-- on over the jobs
+through : (t : Tables) (n : ℕ) (s : Search) (g : Goes) (d : Bool) (j : ℕ) → Means t n s g → g ≡ Up d j →
+    Means t n s (goesUp 32 d (t .jobs) j)
+through t n s g d j m e =
+    let k : s ≡ searchUp 32 (jobPlace d) t n j = subst (Means t n s) e m in
+    subst (λ (x : Search). Means t n x (goesUp 32 d (t .jobs) j)) (sym k) (up-means t n 32 d j)
+
+-- ---- The calls -------------------------------------------------------------------------------
+
+granted : (b : Bool) → not b ≡ false → b ≡ true
+granted true e = refl
+granted false e = no-both refl e
+
+-- o has the thread read, c its process too, and a job
+module _ (t : Tables) (j n : ℕ) {o : Change} (d : o ≡ defs.unchanged t 0 0 n 0) {c : Change}
+    (e : c ≡ defs.unchanged t j (o .thread .process) n 0) (h : n < 128) (i : o .thread .process < 64)
+    (m : not (o .thread .made) ≡ false) where
+  thread-is : o .thread ≡ threadAt t n
+  thread-is = thread-read t 0 0 n 0 d h
+
+  process-is : c .process ≡ processAt t (processOf t n)
+  process-is =
+      process-read t j (o .thread .process) n 0 e i ∙ ap (λ (v : Thread). processAt t (v .process)) thread-is
+
+  found : foundThread t n ≡ OldThread (o .thread)
+  unfolding foundThread if_then_else_
+  found = rw (← thread-is, granted (o .thread .made) m)
+
+  -- the exception raised, g what the thread and its process say of it
+  module _ (kind : ℕ) {route : Route} (a : route ≡ routeOf kind) {b : Bool} (f : b ≡ isNoType route)
+      (l : b ≡ false) {x : Bool} (y : x ≡ isFree (o .thread)) (z : not x ≡ false) (k : kind ≢ 0x8108)
+      (w : o .thread .state ≢ 4) {g : Goes} (q : g ≡ firstGoes route (o .thread) (c .process)) where
+    raises : {r : Reply} → r ≡ delivered (firstHandler (routeOf kind) t n) n kind false →
+        r ≡ raiseException t n kind
+    unfolding raiseException raise
+    raises s =
+        let u : eqb (threadAt t n .state) 4 ≡ false = rw (← thread-is) (ne-eqb _ _ w) in
+        let typed : isNoType (routeOf kind) ≡ false = ap (λ (r : Route). isNoType r) (sym a) ∙ sym f ∙ l in
+        passes _ _ _ typed
+        (passes _ _ _ (lt-leb _ _ h)
+        (the-thread t _ _ refl found
+        (passes _ _ _ (told-not y z) (accepts t (second _ _ (ne-eqb _ _ k) (second _ _ u s))))))
+
+    means : Means t n (firstHandler (routeOf kind) t n) g
+    means =
+        let s : g ≡ firstGoes (routeOf kind) (o .thread) (c .process) = rw (← a) q in
+        subst (Means t n (firstHandler (routeOf kind) t n)) (sym s)
+        (first-means t n thread-is process-is (routeOf kind))
+
+    pub raised : {r : Change} → r ≡ delivers c g n kind false → r .whole ≡ true →
+        defs.stored t r ≡ raiseException t n kind
+    raised s p = raises (comes-to t j (o .thread .process) n e h _ g kind false means s p)
+
+    pub raised-up : {r : Change} {u : Goes} (v : Bool) (i : ℕ) → g ≡ Up v i → u ≡ goesUp 32 v (t .jobs) i →
+        r ≡ delivers c u n kind false → r .whole ≡ true → defs.stored t r ≡ raiseException t n kind
+    raised-up v i up u s p =
+        raises (comes-to t j (o .thread .process) n e h _ (goesUp 32 v (t .jobs) i) kind false
+        (through t n _ g v i means up) (s ∙ ap (λ (x : Goes). delivers c x n kind false) u) p)
+
+  -- the exception y closed, j the job of its place
+  module _ {x : FoundException} (y : Exception) (f : x ≡ exceptionOf (o .thread)) (l : x ≡ Held y) {b : Bool}
+      (a : b ≡ isOver y) (k : b ≡ false) (q : j ≡ jobOf (y .place)) (w : j < 32)
+      {g : Goes} (z : g ≡ nextGoes (y .place) y (c .job) (o .thread) (c .process)) where
+    closes : {r : Reply} → r ≡ delivered (nextHandler (y .place) t n y) n (y .kind) (y .second) →
+        r ≡ closeException t n
+    unfolding closeException close
+    closes s =
+        passes _ _ _ (lt-leb _ _ h)
+        (the-thread t _ _ refl found (the-exception t _ _ f l (accepts t (second _ _ (sym a ∙ k) s))))
+
+    next : Means t n (nextHandler (y .place) t n y) g
+    next =
+        subst (Means t n (nextHandler (y .place) t n y)) (sym z)
+        (next-means t n thread-is process-is (y .place) y
+        (job-read t j (o .thread .process) n 0 e w ∙ ap (jobAt t) q))
+
+    pub closed : {r : Change} → r ≡ delivers c g n (y .kind) (y .second) → r .whole ≡ true →
+        defs.stored t r ≡ closeException t n
+    closed s p = closes (comes-to t j (o .thread .process) n e h _ g (y .kind) (y .second) next s p)
+
+    pub closed-up : {r : Change} {u : Goes} (v : Bool) (i : ℕ) → g ≡ Up v i → u ≡ goesUp 32 v (t .jobs) i →
+        r ≡ delivers c u n (y .kind) (y .second) → r .whole ≡ true → defs.stored t r ≡ closeException t n
+    closed-up v i up u s p =
+        closes (comes-to t j (o .thread .process) n e h _ (goesUp 32 v (t .jobs) i) (y .kind) (y .second)
+        (through t n _ g v i next up) (s ∙ ap (λ (x : Goes). delivers c x n (y .kind) (y .second)) u) p)

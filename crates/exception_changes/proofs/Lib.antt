@@ -1,0 +1,3 @@
+mod Delivering
+mod Meaning
+mod Upward
