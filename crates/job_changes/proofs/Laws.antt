@@ -1,6 +1,6 @@
 -- How a `return` of a call meets its definition, where the call changes one job or none.
 --     left-open                nothing is said of a call that is left open
---     past-job, .., creates    the ways of making a job: u is read at the job above, c at the new name
+--     past-job, .., creates    the ways of making a job: v is the job above, c is read at the new name
 --     kills                    a job that lists nothing, below one that lives on
 -- Assumes nothing.
 use Prim.Native.Nat.{ℕ, zero, suc, _%_, _≤_, _<_}
@@ -10,22 +10,23 @@ use mathlib.Core.Path.{_≡_, refl, sym, ap, _∙_}
 use mathlib.Core.Logic.{_≢_}
 use mathlib.Core.Bool.{Bool, true, false}
 use lib.IntN.{ℤ, pos}
+use lib.ListN.{getD}
 use lib.Seq.{set-set}
 use Rattle.laws.specs.Choice.{if_then_else_}
 use Rattle.laws.specs.Lists.{any}
 use Rattle.laws.proofs.Cases.{no-both, by}
 use Rattle.error.specs.Numbers.{BAD-STATE}
-use Rattle.job_policy.specs.Policy.{merge}
+use Rattle.job_policy.specs.Policy.{merge, noPolicy}
 use Rattle.record_job.specs.declared.Parent.{Parent}
 use Rattle.record_job.specs.declared.Parent.the-variants.{Orphan, ChildOf}
 use Rattle.record_job.specs.declared.Job.{Job}
-use Rattle.record_job.specs.Job.{newJob, killed, terminated, childOf}
+use Rattle.record_job.specs.Job.{noJob, newJob, killed, terminated, childOf}
 use Rattle.record_process.specs.Process.{memberOf}
 use Rattle.records.specs.declared.tables.Tables.{Tables}
 use Rattle.records.specs.declared.tables.FoundJob.the-variants.{NoJob, OldJob}
 use Rattle.records.specs.declared.reply.Reply.{Reply}
 use Rattle.records.specs.Reply.{answered}
-use Rattle.records.specs.Tables.{jobAt, processAt, foundJob, putJob, withJobs}
+use Rattle.records.specs.Tables.{jobAt, ownAt, inheritedAt, processAt, foundJob, putJob, withJobs}
 use Rattle.model.specs.Job.{listsChild, listsProcess, jobEmpty, mayTerminate, terminateUp, terminateJob}
 use Rattle.model.specs.Job.{killJob}
 use Rattle.model.specs.JobPolicy.{policyOf}
@@ -94,8 +95,8 @@ module _ (t : Tables) (j n : ℕ) {x : Reply} where
         unfolding createChild
         accepted h e = let g = old-job t j m in search answering depth 20
 
-module _ (t : Tables) (j n : ℕ) {u c : Change} (d : u ≡ defs.unchanged t j 0 0 0)
-    (e : c ≡ defs.unchanged t n 0 0 0) where
+-- v is the job above
+module _ (t : Tables) (j n : ℕ) {c : Change} (e : c ≡ defs.unchanged t n 0 0 0) where
   refused : {r : Change} (a : ℤ) → r ≡ defs.answered c a → defs.stored t r ≡ answered t a
   refused a x = storing.stays t n 0 0 0 e a x
 
@@ -103,43 +104,42 @@ module _ (t : Tables) (j n : ℕ) {u c : Change} (d : u ≡ defs.unchanged t j 0
   past-job h x = past-above t j n h (refused _ x)
 
   module _ (a : j < 32) where
-    job : u .job ≡ jobAt t j
-    job = storing.job-read t j 0 0 0 d a
-
     pub past-name : {r : Change} → 32 ≤ n → r ≡ defs.answered c (pos 101) →
         defs.stored t r ≡ createChild t j n
     past-name h x = past-new t j n a h (refused _ x)
 
-    module _ (b : n < 32) where
+    module _ (b : n < 32) {v : Job} (d : v ≡ getD (t .jobs) j noJob) where
+      job : v ≡ jobAt t j
+      unfolding jobAt
+      job = d
+
       new : c .job ≡ jobAt t n
       new = storing.job-read t n 0 0 0 e b
 
-      pub unmade : {r : Change} → u .job .made ≡ false → r ≡ defs.answered c (pos 103) →
+      pub unmade : {r : Change} → v .made ≡ false → r ≡ defs.answered c (pos 103) →
           defs.stored t r ≡ createChild t j n
       unmade h x = not-above t j n a b (made-read job h) (refused _ x)
 
-      module _ (m : u .job .made ≡ true) where
+      module _ (m : v .made ≡ true) where
         pub used : {r : Change} → c .job .made ≡ true → r ≡ defs.answered c (pos 102) →
             defs.stored t r ≡ createChild t j n
         used h x = used-new t j n a b (made-read job m) (made-read new h) (refused _ x)
 
         module _ (f : c .job .made ≡ false) where
-          pub killed-above : {r : Change} → u .job .killed ≡ true → r ≡ defs.answered c BAD-STATE →
+          pub killed-above : {r : Change} → v .killed ≡ true → r ≡ defs.answered c BAD-STATE →
               defs.stored t r ≡ createChild t j n
           killed-above h x =
               below-killed t j n a b (made-read job m) (made-read new f) (killed-read job h) (refused _ x)
 
-          pub creates : {r : Change} → u .job .killed ≡ false →
+          pub creates : {r : Change} → v .killed ≡ false →
               r ≡ defs.answered (defs.withInherited (defs.withJob c (newJob j))
-              (merge (u .own) (u .inherited))) (pos 0) →
+              (merge (getD (t .own) j noPolicy) (getD (t .inherited) j noPolicy))) (pos 0) →
               defs.stored t r ≡ createChild t j n
-          unfolding withChild policyOf
+          unfolding withChild policyOf ownAt inheritedAt
           creates h x =
               let here : n % 32 ≡ n = omega arith in
-              let own = storing.own-read t j 0 0 0 d a in
-              let inherited = storing.inherited-read t j 0 0 0 d a in
               accepted t j n a b (made-read job m) (made-read new f) (killed-read job h)
-              (rw (here, own, inherited) at (storing.stores-new-job t n 0 0 0 e _ _ _ x))
+              (rw here at (storing.stores-new-job t n 0 0 0 e _ _ _ x))
 
 -- ---- A job that lists nothing, below one that lives on ---------------------------------------
 

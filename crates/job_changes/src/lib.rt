@@ -16,15 +16,17 @@ use records::tables::Tables;
 pub fn create_child(t: Tables, job: u8, new: u8) -> Change
     ensures { λ r. ⌜ Comes t (createChild t job new) r ⌝ }
 {
-    let above = unchanged(t, job, 0, 0, 0);
     let c = unchanged(t, new, 0, 0, 0);
+    let jobs = t.jobs;
+    let own = t.own;
+    let inherited = t.inherited;
     if 32 <= job {
         return c.answered(Refusal::PAST_TABLE);
     }
     if 32 <= new {
         return c.answered(Refusal::PAST_TABLE);
     }
-    let v = above.job;
+    let v = lists::job_in(jobs, job);
     if !v.made {
         return c.answered(Refusal::NOT_MADE);
     }
@@ -35,9 +37,7 @@ pub fn create_child(t: Tables, job: u8, new: u8) -> Change
     if v.killed {
         return c.answered(ZxError::BAD_STATE);
     }
-    let own = above.own;
-    let inherited = above.inherited;
-    let policy = own.merge(inherited);
+    let policy = lists::policy_in(own, job).merge(lists::policy_in(inherited, job));
     c.with_job(Job::new(job)).with_inherited(policy).answered(0)
 }
 

@@ -3,12 +3,13 @@
 --     creates                  a new process
 --     denies, binds            a binding to a job that is not above, and to one that is
 --     finishes                 a thread that is not the last of its process
---     exits                    a process that lists no thread
+--     stops, exits             a process that exits, with threads and with none
 -- Assumes nothing.
 use Prim.Native.Nat.{ℕ, _%_, _≤_, _<_}
 use native.Mathlib.Omega.{arith}
 use mathlib.Core.Path.{_≡_, refl, sym, ap, _∙_}
 use mathlib.Core.Bool.{Bool, true, false}
+use mathlib.Core.List.{map}
 use lib.IntN.{ℤ, pos}
 use lib.ListN.{getD, set}
 use lib.Seq.{set-set}
@@ -17,6 +18,7 @@ use Rattle.laws.specs.Lists.{any}
 use Rattle.laws.proofs.Cases.{no-both}
 use Rattle.laws.proofs.Flow.{and-stops}
 use Rattle.error.specs.Numbers.{INVALID-ARGS}
+use Rattle.lists.specs.Each.{oneOf, eachIn}
 use Rattle.job_policy.specs.Policy.{merge}
 use Rattle.record_job.specs.declared.Job.{Job}
 use Rattle.record_job.specs.Job.{noJob}
@@ -34,15 +36,16 @@ use Rattle.records.specs.declared.tables.FoundThread.the-variants.{OldThread}
 use Rattle.records.specs.declared.reply.Reply.{Reply}
 use Rattle.records.specs.Reply.{reply, answered}
 use Rattle.records.specs.Tables.{jobAt, processAt, threadAt, foundJob, foundProcess, foundThread, putProcess}
-use Rattle.records.specs.Tables.{putThread, withProcesses}
+use Rattle.records.specs.Tables.{putThread, withProcesses, withThreads}
 use Rattle.model.specs.Job.{atOrAbove, mayTerminate, listsThread, exitProcess, finishThread}
+use Rattle.model.specs.Job.{stopIn, stopThreads}
 use Rattle.model.specs.JobPolicy.{policyOf}
 use Rattle.model.specs.JobCalls.{withNewProcess, createProcess, setCriticalAtJob, exitProcessCall}
 use Rattle.model.specs.ThreadCalls.{finishThreadCall}
 use Rattle.model.proofs.Answering.{answering}
 use Rattle.model.proofs.Live.{live-process}
 use Rattle.model.proofs.TaskTables.{putProcess-made}
-use Rattle.model.proofs.Steps.{Exiting, exit-ends, end-free}
+use Rattle.model.proofs.Steps.{Exiting, exit-stops, exit-ends, end-free}
 use Rattle.model.proofs.Upward.{unlist-stays, finish-rests}
 use Rattle.change.specs.declared.Change.{Change}
 use Rattle.change.specs.Change as defs
@@ -156,7 +159,22 @@ finishes t n {c} e a m f l x =
     leaves t n a (rw thread at m) (rw thread at f)
     (rw (here, w) at (storing.stores-thread t 0 0 n 0 e _ _ _ x))
 
--- ---- A process that lists no thread ----------------------------------------------------------
+-- ---- A process that exits --------------------------------------------------------------------
+
+lists-same : (t : Tables) (p i : ℕ) (v : Process) → listsThread (putProcess t i v) p ≡ listsThread t p
+unfolding listsThread putProcess
+lists-same t p i v = refl
+
+exited : (t : Tables) (p : ℕ) (code : ℤ) {x : Reply} → p < 64 → processAt t p .made ≡ true →
+    x ≡ answered (exitProcess t p code) (pos 0) → x ≡ exitProcessCall t p code
+unfolding exitProcessCall
+exited t p code a m e = let g = old-process t p m in search answering depth 20
+
+-- killing each thread, 3 of `Each`, is what stops the threads of a process
+kills-each : (t : Tables) (p : ℕ) (s : Process) →
+    withThreads (putProcess t p s) (map (eachIn 3 p) (t .threads)) ≡ stopThreads (putProcess t p s) p
+unfolding stopThreads stopIn oneOf eachIn if_then_else_ putProcess
+kills-each t p s = refl
 
 unbound : (b : Critical) → isCritical b ≡ false → b ≡ Free
 unbound Free e = refl
@@ -166,45 +184,64 @@ twice : (t : Tables) (p : ℕ) (a b : Process) → putProcess (putProcess t p a)
 unfolding putProcess
 twice t p a b = ap (withProcesses t) (set-set (t .processes) p a b)
 
-lists-same : (t : Tables) (p i : ℕ) (v : Process) → listsThread (putProcess t i v) p ≡ listsThread t p
-unfolding listsThread putProcess
-lists-same t p i v = refl
-
 lives-on : (t : Tables) (j p i : ℕ) (a b : Process) → jobAt t j .killed ≡ false →
     mayTerminate (putProcess (putProcess t p a) i b) j ≡ false
 unfolding mayTerminate jobAt putProcess
 lives-on t j p i a b k = sym (and-stops _ k)
 
--- s is the process as it exits; u has s, and w has it ended
-ends-at-once : (t : Tables) (p : ℕ) (code : ℤ) → processAt t p .made ≡ true →
-    isExited (processAt t p .status) ≡ false → isCritical (processAt t p .critical) ≡ false →
-    jobAt t (processAt t p .job) .killed ≡ false → listsThread t p ≡ false →
-    putProcess t p (ended (withStatus (processAt t p) (Exited code))) ≡ exitProcess t p code
-ends-at-once t p code m x f k l =
-    let s : Process = withStatus (processAt t p) (Exited code) in
-    let u : Tables = putProcess t p s in
-    let w : Tables = putProcess u p (ended s) in
-    let live : Exiting t p code u = record { live = live-process (processAt t p) m x; after = refl } in
-    let read = sym (putProcess-made t p s m) in
-    let off = unlist-stays u p s (ended s) w read refl refl (lives-on t _ p p s (ended s) k) in
-    sym (twice t p s (ended s)) ∙ end-free u p s w read off (unbound _ f)
-    ∙ exit-ends t p code u live (lists-same t p p s ∙ l)
+module _ (t : Tables) (p : ℕ) (code : ℤ) (m : processAt t p .made ≡ true)
+    (x : isExited (processAt t p .status) ≡ false) where
+  -- the process as it exits, and the tables with it
+  abbrev now : Process
+  now = withStatus (processAt t p) (Exited code)
 
-exited : (t : Tables) (p : ℕ) (code : ℤ) {x : Reply} → p < 64 → processAt t p .made ≡ true →
-    x ≡ answered (exitProcess t p code) (pos 0) → x ≡ exitProcessCall t p code
-unfolding exitProcessCall
-exited t p code a m e = let g = old-process t p m in search answering depth 20
+  abbrev after : Tables
+  after = putProcess t p now
 
-pub exits : (t : Tables) (p : ℕ) (code : ℤ) {c r : Change} → c ≡ defs.unchanged t 0 p 0 0 → p < 64 →
-    c .process .made ≡ true → isExited (c .process .status) ≡ false →
-    isCritical (c .process .critical) ≡ false →
-    getD (t .jobs) (c .process .job) noJob .killed ≡ false → any (λ v. threadOf v p) (t .threads) ≡ false →
-    r ≡ defs.answered (defs.withProcess c (ended (withStatus (c .process) (Exited code)))) (pos 0) →
-    defs.stored t r ≡ exitProcessCall t p code
-unfolding jobAt listsThread
-exits t p code e a m x f k l y =
-    let process = storing.process-read t 0 p 0 0 e a in
-    let here : p % 64 ≡ p = omega arith in
-    let made = rw process at m in
-    let o = ends-at-once t p code made (rw process at x) (rw process at f) (rw process at k) l in
-    exited t p code a made (rw (here, process, o) at (storing.stores-process t 0 p 0 0 e _ _ y))
+  live : Exiting t p code after
+  live = record { live = live-process (processAt t p) m x; after = refl }
+
+  stops-each : listsThread t p ≡ true →
+      withThreads after (map (eachIn 3 p) (t .threads)) ≡ exitProcess t p code
+  stops-each l = kills-each t p now ∙ exit-stops t p code after live (lists-same t p p now ∙ l)
+
+  -- w has the process ended
+  ends-at-once : isCritical (processAt t p .critical) ≡ false →
+      jobAt t (processAt t p .job) .killed ≡ false → listsThread t p ≡ false →
+      putProcess t p (ended now) ≡ exitProcess t p code
+  ends-at-once f k l =
+      let w : Tables = putProcess after p (ended now) in
+      let read = sym (putProcess-made t p now m) in
+      let off = unlist-stays after p now (ended now) w read refl refl (lives-on t _ p p now (ended now) k) in
+      sym (twice t p now (ended now)) ∙ end-free after p now w read off (unbound _ f)
+      ∙ exit-ends t p code after live (lists-same t p p now ∙ l)
+
+module _ (t : Tables) (p : ℕ) (code : ℤ) {c : Change} (e : c ≡ defs.unchanged t 0 p 0 0) (a : p < 64)
+    (m : c .process .made ≡ true) (x : isExited (c .process .status) ≡ false) where
+  process : c .process ≡ processAt t p
+  process = storing.process-read t 0 p 0 0 e a
+
+  here : p % 64 ≡ p
+  here = omega arith
+
+  pub stops : {r : Change} → any (λ v. threadOf v p) (t .threads) ≡ true →
+      r ≡ defs.answered (defs.withEach (defs.withProcess c (withStatus (c .process) (Exited code))) 3)
+      (pos 0) →
+      defs.stored t r ≡ exitProcessCall t p code
+  unfolding listsThread
+  stops l y =
+      let made = rw process at m in
+      let o = stops-each t p code made (rw process at x) l in
+      exited t p code a made
+      (rw (here, process, o) at (storing.stores-process-spreads t 0 p 0 0 e _ 3 _ refl y))
+
+  pub exits : {r : Change} → any (λ v. threadOf v p) (t .threads) ≡ false →
+      isCritical (c .process .critical) ≡ false → getD (t .jobs) (c .process .job) noJob .killed ≡ false →
+      r ≡ defs.answered (defs.withProcess c (ended (withStatus (c .process) (Exited code)))) (pos 0) →
+      defs.stored t r ≡ exitProcessCall t p code
+  unfolding jobAt listsThread
+  exits l f k y =
+      let made = rw process at m in
+      let o = ends-at-once t p code made (rw process at x) (rw process at f) (rw process at k) l in
+      exited t p code a made
+      (rw (here, process, o) at (storing.stores-process t 0 p 0 0 e _ _ y))

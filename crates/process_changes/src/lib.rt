@@ -1,5 +1,6 @@
 // process_changes: making, binding and ending a process and finishing a thread, where the call changes one
-// record at most. Follows process.rs. A call that may change more is left open, like one `deciding` refuses.
+// record at most, or a process with all its threads. Follows process.rs. A call that may change more is
+// left open, like one `deciding` refuses.
 ghost use Rattle.model.specs.JobCalls.{createProcess, exitProcessCall, setCriticalAtJob};
 ghost use Rattle.model.specs.ThreadCalls.{finishThreadCall};
 ghost use Rattle.change.specs.Change.{Comes};
@@ -7,6 +8,7 @@ ghost use Rattle.process_changes.specs.Above.{SaysAbove};
 use change::Change;
 use change::unchanged;
 use error::ZxError;
+use lists::Each;
 use record_job::Job;
 use record_job::Parent;
 use record_process::Process;
@@ -43,8 +45,8 @@ pub fn create_with_ext(t: Tables, job: u8, new: u8) -> Change
         .answered(0)
 }
 
-// 05, 06: `Process::exit`, on a process that lists no thread and is bound to no job, in a job that lives on:
-// it ends at once.
+// 05, 06: `Process::exit`. A process that lists threads kills each, and ends with the last of them. One that
+// lists none, bound to no job and in a job that lives on, ends at once.
 pub fn exit(t: Tables, process: u8, code: i64) -> Change
     ensures { λ r. ⌜ Comes t (exitProcessCall t process code) r ⌝ }
 {
@@ -62,6 +64,10 @@ pub fn exit(t: Tables, process: u8, code: i64) -> Change
     if status.is_exited() {
         return c;
     }
+    let exited = q.with_status(Status::Exited(code));
+    if lists::lists_thread(threads, process) {
+        return c.with_process(exited).with_each(Each::KILL).answered(0);
+    }
     let critical = q.critical;
     if critical.is_bound() {
         return c;
@@ -69,11 +75,7 @@ pub fn exit(t: Tables, process: u8, code: i64) -> Change
     if lists::job_in(jobs, q.job).killed {
         return c;
     }
-    if lists::lists_thread(threads, process) {
-        return c;
-    }
-    c.with_process(q.with_status(Status::Exited(code)).ended())
-        .answered(0)
+    c.with_process(exited.ended()).answered(0)
 }
 
 // Whether job j is job i or an ancestor of it.

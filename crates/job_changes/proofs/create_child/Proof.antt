@@ -10,47 +10,49 @@ create-child-spec =
     (tie.spec
     (λ c κs. search needs)
     (λ c κs. search needs)
-    (λ c κs. search needs)
     (λ c.
     let i = c .before in
-    let n = i .before in
-    λ _. past-job _ _ _ (n .before .unchanged .ensures) (n .unchanged2 .ensures)
-    (i .if1 .taken) (c .answered .ensures))
+    let n = i .before .before .before .before in
+    λ _. past-job _ _ _ (n .unchanged .ensures) (i .if1 .taken) (c .answered .ensures))
     (λ c κs. search needs)
     (λ c.
     let i = c .before in
     let a = i .before in
-    let n = a .before in
-    λ _. past-name _ _ _ (n .before .unchanged .ensures) (n .unchanged2 .ensures)
-    (a .if1 .left) (i .if2 .taken) (c .answered2 .ensures))
+    let n = a .before .before .before .before in
+    λ _. past-name _ _ _ (n .unchanged .ensures) (a .if1 .left) (i .if2 .taken) (c .answered2 .ensures))
+    (λ c κs. search needs)
     (λ c κs. search needs)
     (λ c.
     let i = c .before in
-    let b = i .before .before .before in
+    let v = i .before .before in
+    let b = v .before in
     let a = b .before in
-    let n = a .before in
-    λ _. unmade _ _ _ (n .before .unchanged .ensures) (n .unchanged2 .ensures)
-    (a .if1 .left) (b .if2 .left) (not-true _ (i .if3 .taken)) (c .answered3 .ensures))
+    let n = a .before .before .before .before in
+    λ _. unmade _ _ _ (n .unchanged .ensures) (a .if1 .left) (b .if2 .left) (v .job-in .ensures)
+    (not-true _ (i .if3 .taken)) (c .answered3 .ensures))
     (λ c κs. search needs)
     (λ c.
     let i = c .before in
     let m = i .before .before in
-    let b = m .before .before .before in
+    let v = m .before .before in
+    let b = v .before in
     let a = b .before in
-    let n = a .before in
-    λ _. used _ _ _ (n .before .unchanged .ensures) (n .unchanged2 .ensures)
-    (a .if1 .left) (b .if2 .left) (not-false _ (m .if3 .left)) (i .if4 .taken) (c .answered4 .ensures))
+    let n = a .before .before .before .before in
+    λ _. used _ _ _ (n .unchanged .ensures) (a .if1 .left) (b .if2 .left) (v .job-in .ensures)
+    (not-false _ (m .if3 .left)) (i .if4 .taken) (c .answered4 .ensures))
     (λ c κs. search needs)
     (λ c.
     let i = c .before in
     let f = i .before in
     let m = f .before .before in
-    let b = m .before .before .before in
+    let v = m .before .before in
+    let b = v .before in
     let a = b .before in
-    let n = a .before in
-    λ _. killed-above _ _ _ (n .before .unchanged .ensures) (n .unchanged2 .ensures)
-    (a .if1 .left) (b .if2 .left) (not-false _ (m .if3 .left)) (f .if4 .left)
-    (i .if5 .taken) (c .answered5 .ensures))
+    let n = a .before .before .before .before in
+    λ _. killed-above _ _ _ (n .unchanged .ensures) (a .if1 .left) (b .if2 .left) (v .job-in .ensures)
+    (not-false _ (m .if3 .left)) (f .if4 .left) (i .if5 .taken) (c .answered5 .ensures))
+    (λ c κs. search needs)
+    (λ c κs. search needs)
     (λ c κs. search needs)
     (λ c κs. search needs)
     (λ c κs. search needs)
@@ -58,19 +60,24 @@ create-child-spec =
     (λ c κs. search needs)
     (λ c.
     let w = c .before .before in
-    let v = w .before in
-    let o = v .before in
-    let i = o .before .before .before in
+    let k = w .before in
+    let o = k .before in
+    let q = o .before in
+    let p = q .before in
+    let i = p .before in
     let f = i .before in
     let m = f .before .before in
-    let b = m .before .before .before in
+    let v = m .before .before in
+    let b = v .before in
     let a = b .before in
-    let n = a .before in
+    let n = a .before .before .before .before in
     let r = simp (
       c .before .with-inherited .ensures,
       w .with-job .ensures,
-      v .new .ensures,
+      k .new .ensures,
       o .merge .ensures,
+      q .policy-in2 .ensures,
+      p .policy-in .ensures,
     ) at (c .answered6 .ensures) in
-    λ _. creates _ _ _ (n .before .unchanged .ensures) (n .unchanged2 .ensures)
-    (a .if1 .left) (b .if2 .left) (not-false _ (m .if3 .left)) (f .if4 .left) (i .if5 .left) r))
+    λ _. creates _ _ _ (n .unchanged .ensures) (a .if1 .left) (b .if2 .left) (v .job-in .ensures)
+    (not-false _ (m .if3 .left)) (f .if4 .left) (i .if5 .left) r))

@@ -5,7 +5,7 @@ use borrow.Author.Needs.{needs}
 use borrow.Author.Tests.{not-false}
 use Rattle.laws.proofs.Flow.{told}
 use Rattle.record_job.specs.declared.Job.{Job}
-use Rattle.process_changes.proofs.Laws.{left-open, exits}
+use Rattle.process_changes.proofs.Laws.{left-open, stops, exits}
 use Rattle.process_changes.proofs.exit.Statement.{statement}
 use Rattle.process_changes.proofs.exit.Tie as tie
 
@@ -21,37 +21,52 @@ exit-spec =
     let b = c .before .before .before .before in
     left-open _ _ _ _ _ (b .before .before .before .before .unchanged .ensures))
     (λ c κs. search needs)
-    (λ c.
-    let b = c .before .before .before .before .before in
-    left-open _ _ _ _ _ (b .before .before .before .before .before .unchanged .ensures))
+    (λ c κs. search needs)
+    (λ c κs. search needs)
+    (λ c κs. search needs)
     (λ c κs. search needs)
     (λ c.
-    let b = c .before .before .before .before .before .before in
-    left-open _ _ _ _ _ (b .before .before .before .before .before .before .unchanged .ensures))
+    let e = c .before in
+    let w = e .before in
+    let l = w .before in
+    let s = l .before .before in
+    let x = s .before in
+    let m = x .before .before in
+    let a = m .before .before .before in
+    let u = a .before .before .before in
+    let code = toZ-ofZ {w = w64} (u .before .fits .code) in
+    let r = simp (e .with-each .ensures, w .with-process .ensures, s .with-status .ensures, code)
+    at (c .answered .ensures) in
+    λ _. stops _ _ _ (u .unchanged .ensures) (a .if1 .left) (not-false _ (m .if2 .left))
+    (told (x .before .is-exited .ensures) (x .if3 .left))
+    (told (l .before .lists-thread .ensures) (l .if4 .taken)) r)
     (λ c κs. search needs)
     (λ c.
     let b = c .before .before .before .before .before .before .before in
-    left-open _ _ _ _ _ (b .before .before .before .before .before .before .before .unchanged .ensures))
+    left-open _ _ _ _ _ (b .before .before .before .before .before .before .unchanged .ensures))
     (λ c κs. search needs)
+    (λ c.
+    let b = c .before .before .before .before .before .before .before .before in
+    left-open _ _ _ _ _ (b .before .before .before .before .before .before .before .unchanged .ensures))
     (λ c κs. search needs)
     (λ c κs. search needs)
     (λ c κs. search needs)
     (λ c.
     let w = c .before in
     let v = w .before in
-    let s = v .before in
-    let l = s .before in
-    let j = l .before .before in
+    let j = v .before in
     let b = j .before .before in
-    let x = b .before .before in
+    let l = b .before .before in
+    let s = l .before .before in
+    let x = s .before in
     let m = x .before .before in
     let a = m .before .before .before in
     let u = a .before .before .before in
-    let k = ap (λ (o : Job). o .killed) (sym (j .before .job-in .ensures)) ∙ j .if5 .left in
+    let k = ap (λ (o : Job). o .killed) (sym (j .before .job-in .ensures)) ∙ j .if6 .left in
     let code = toZ-ofZ {w = w64} (u .before .fits .code) in
-    let r = simp (w .with-process .ensures, v .ended .ensures, s .with-status .ensures, code)
-    at (c .answered .ensures) in
+    let r = simp (w .with-process2 .ensures, v .ended .ensures, s .with-status .ensures, code)
+    at (c .answered2 .ensures) in
     λ _. exits _ _ _ (u .unchanged .ensures) (a .if1 .left) (not-false _ (m .if2 .left))
     (told (x .before .is-exited .ensures) (x .if3 .left))
-    (told (b .before .is-bound .ensures) (b .if4 .left)) k
-    (told (l .before .lists-thread .ensures) (l .if6 .left)) r))
+    (told (l .before .lists-thread .ensures) (l .if4 .left))
+    (told (b .before .is-bound .ensures) (b .if5 .left)) k r))
