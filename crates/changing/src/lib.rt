@@ -8,6 +8,7 @@ ghost use Rattle.change.specs.Change.{Comes};
 use change::Change;
 use change::unchanged;
 use commands::byte_at;
+use commands::half_at;
 use commands::value_at;
 use job_policy::TimerSlackPolicy;
 use record_process::Process;
@@ -42,6 +43,10 @@ pub fn change_of(t: Tables, s: &[u8]) -> Change
         0x0e => token_changes::drop(t, a),
         0x0f => policy_changes::set_policy_four(t, a, b, byte_at(s, 3), commands::pairs_at(s)),
         0x10 => set_slack(t, s),
+        0x14 => exception_changes::raise(t, a, half_at(s)),
+        0x15 => exception_changes::close(t, a),
+        0x1e => suspend_changes::suspend(t, a, b),
+        0x1f => suspend_changes::resume(t, a, b),
         _ => unchanged(t, 0, 0, 0, 0),
     }
 }
