@@ -1,7 +1,11 @@
 -- The records that `feed` reads from its tables are those that a command names. Assumes nothing.
 use Prim.Native.Nat.{ℕ, _<_, _%_}
-use mathlib.Core.Path.{_≡_, _∙_, subst}
-use lib.ListN.{length, getD, length-set}
+use mathlib.Core.Path.{_≡_, ap, _∙_, subst}
+use mathlib.Core.List.{List, map}
+use borrow.Author.Tests.{ne-eqb}
+use lib.ListN.{length, getD, length-set, length-map}
+use Rattle.laws.specs.Choice.{if_then_else_}
+use Rattle.lists.specs.Each.{eachIn}
 use Rattle.laws.proofs.Tables.{read-in}
 use Rattle.job_policy.specs.declared.JobPolicy.{JobPolicy}
 use Rattle.record_job.specs.declared.Job.{Job}
@@ -9,7 +13,8 @@ use Rattle.record_process.specs.declared.Process.{Process}
 use Rattle.record_thread.specs.declared.Thread.{Thread}
 use Rattle.records.specs.declared.tables.Tables.{Tables}
 use Rattle.records.specs.Tables.{putJob, putOwn, putInherited, putProcess, putFixed, putThread}
-use Rattle.records.specs.Tables.{putToken}
+use Rattle.records.specs.Reply.{reply}
+use Rattle.records.specs.Tables.{putToken, withThreads}
 use Rattle.records.specs.Tables.{jobAt, processAt, threadAt, ownAt, inheritedAt, fixedAt}
 use Rattle.model.specs.Reachable.{Sized}
 use Rattle.change.specs.declared.Change.{Change}
@@ -49,9 +54,11 @@ stored-sized t s d z =
       tokens = z .tokens;
     }
 
-pub changed-sized : (t : Tables) (c : Change) → Sized t → Sized (defs.storing t c)
-unfolding defs.storing putJob putOwn putInherited putProcess putFixed putThread putToken
-changed-sized t c z =
+-- ---- A change ------------------------------------------------------------------------------
+
+pub records-sized : (t : Tables) (c : Change) → Sized t → Sized (defs.storingRecords t c)
+unfolding putJob putOwn putInherited putProcess putFixed putThread putToken
+records-sized t c z =
     record {
       jobs = length-set (t .jobs) (c .j % 32) (c .job) ∙ z .jobs;
       own = length-set (t .own) (c .j % 32) (c .own) ∙ z .own;
@@ -61,3 +68,29 @@ changed-sized t c z =
       threads = length-set (t .threads) (c .n % 128) (c .thread) ∙ z .threads;
       tokens = length-set (t .tokens) (c .k % 64) (c .token) ∙ z .tokens;
     }
+
+pub spread-sized : (t : Tables) (c : Change) → Sized t → (l : List Thread) →
+    l ≡ map (eachIn (c .each) (c .p)) (defs.storingRecords t c .threads) →
+    Sized (withThreads (defs.storingRecords t c) l)
+spread-sized t c z l e =
+    let r = records-sized t c z in
+    record {
+      jobs = r .jobs;
+      own = r .own;
+      inherited = r .inherited;
+      processes = r .processes;
+      fixed = r .fixed;
+      threads = ap length e ∙ length-map (defs.storingRecords t c .threads) (eachIn (c .each) (c .p)) ∙ r .threads;
+      tokens = r .tokens;
+    }
+
+pub stored-alone : (t : Tables) (c : Change) → c .each ≡ 0 →
+    defs.stored t c ≡ reply (defs.storingRecords t c) (c .answer) (c .fields)
+unfolding defs.stored defs.storing defs.spread if_then_else_
+stored-alone t c h = rw h
+
+pub stored-spread : (t : Tables) (c : Change) {l : List Thread} → (c .each ≡ 0 → ⊥) →
+    l ≡ map (eachIn (c .each) (c .p)) (defs.storingRecords t c .threads) →
+    defs.stored t c ≡ reply (withThreads (defs.storingRecords t c) l) (c .answer) (c .fields)
+unfolding defs.stored defs.storing defs.spread if_then_else_
+stored-spread t c h e = rw (ne-eqb (c .each) 0 h, e)

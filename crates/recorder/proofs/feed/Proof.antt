@@ -12,16 +12,19 @@ use mir.Syntax.{w64}
 use mir.Val.{SFits}
 use mir.Facts.{toZ-ofZ}
 use Rattle.recorder.specs.declared.State.{State}
-use Rattle.recorder.specs.Recorder.{stateOf, fed, ahead}
+use Rattle.recorder.specs.Recorder.{nextNumber, stateOf, fed, ahead}
 use Rattle.laws.proofs.Loops.{length-mapped}
 use Rattle.model.specs.Reachable.{Sized}
 use Rattle.deciding.specs.declared.Slots.{Slots}
 use Rattle.deciding.specs.Deciding.{storedAt}
 use Rattle.records.specs.Reply.{reply}
 use Rattle.records.specs.Tables.{putJob, putOwn, putInherited, putProcess, putFixed, putThread}
-use Rattle.records.specs.Tables.{putToken}
-use Rattle.change.specs.Change.{storing, stored}
-use Rattle.recorder.proofs.Storing.{holds, holds-there, stored-sized, changed-sized}
+use Rattle.records.specs.Tables.{putToken, withThreads}
+use Rattle.records.specs.declared.tables.Tables.{Tables}
+use Rattle.change.specs.declared.Change.{Change}
+use Rattle.change.specs.Change.{storingRecords, stored}
+use Rattle.recorder.proofs.Storing.{holds, holds-there, stored-sized, records-sized, spread-sized}
+use Rattle.recorder.proofs.Storing.{stored-alone, stored-spread}
 use Rattle.recorder.proofs.Feeding.{begins, full, waits, stops, goes, whole-fits, as-lined}
 use Rattle.recorder.proofs.feed.Statement.{statement}
 use Rattle.recorder.proofs.feed.Tie as tie
@@ -167,10 +170,27 @@ loop-again c =
       ),
     )
 
--- changed in no more than the records of a change
-loop-again-2 : tie.Need-loop-again-2 Inv-loop μ-loop
-unfolding stored storing reply putJob putOwn putInherited putProcess putFixed putThread putToken
-loop-again-2 c =
+-- a change: from the records stored, where the last of them is read
+abbrev sized-2 : tie.After-token Inv-loop μ-loop → tie.After-n Inv-loop μ-loop
+sized-2 c = sized (numbered-2 c)
+
+abbrev at-2 : tie.After-token Inv-loop μ-loop → tie.At-loop Inv-loop μ-loop
+at-2 c = sized-2 c .before .before .before .before .before
+
+abbrev change-2 : tie.After-token Inv-loop μ-loop → Change
+change-2 c = lined c .before .before .before .before .before .change-of .result
+
+-- the reply of a change, whose tables are u
+came : (c : tie.After-token Inv-loop μ-loop) (u : Tables) →
+    let l = at-2 c in
+    let n = l .loop .at + sized-2 c .n .given .0 .0 in
+    let p = lined c in
+    stored (l .loop .t) (change-2 c) ≡ reply u (change-2 c .answer) (change-2 c .fields) →
+    fed (length (out₀ l)) (state l) (input l)
+    ≡ ahead n (take (p .put-line2 .result) (p .put-line2 .last .0))
+    (fed (length (out₀ l) - p .put-line2 .result) (stateOf u (nextNumber (l .loop .number))) (drop n (input l)))
+unfolding reply
+came c u h =
     let p = lined c in
     let o = p .before .before in
     let w = o .before .before in
@@ -182,24 +202,61 @@ loop-again-2 c =
     let l = e .before in
     let got : SFits w64 (d .change-of .result .answer) = record { sfits = d .change-of .ok .1 .1 .1 .0 .1 } in
     let put = as-lined _ (m .next-number2 .ensures) (toZ-ofZ {w = w64} got) (o .none .ensures) (p .put-line2 .ensures .0) in
-    let g =
     goes (input l) (out₀ l) (l .loop .out) (state l) (here l) (l .loop .at) (l .loop .written)
     (l .loop .inv .1)
-    (e .if1 .left) _ (n .next-of .ensures) _ (k .n .given .1) (stored (l .loop .t) (d .change-of .result))
-    (d .change-of .ensures (w .if3 .taken)) put in (
-      changed-sized (l .loop .t) (d .change-of .result) (l .loop .inv .0),
+    (e .if1 .left) _ (n .next-of .ensures) _ (k .n .given .1)
+    (reply u (d .change-of .result .answer) (d .change-of .result .fields))
+    (sym h ∙ d .change-of .ensures (w .if3 .taken)) put
+
+-- with a change of each thread of a process
+loop-again-2 : tie.Need-loop-again-2 Inv-loop μ-loop
+unfolding putJob putOwn putInherited putProcess putFixed putThread putToken
+loop-again-2 c =
+    let a = c .before .before .before .before in
+    let p = lined a in
+    let e = sized-2 a .before .before .before .before in
+    let l = at-2 a in (
+      spread-sized (l .loop .t) (change-2 a) (l .loop .inv .0) (c .each-thread .result) (c .each-thread .ensures),
       (
-        fits k .1,
+        fits (sized-2 a) .1,
         (
           omega (arith, p .put-line2 .ensures .1, p .put-line2 .kept .0, e .if1 .left),
-          (p .put-line2 .kept .0 ∙ l .loop .inv .1 .1 .1 .0, rw (m .next-number2 .ensures) g),
+          (
+            p .put-line2 .kept .0 ∙ l .loop .inv .1 .1 .1 .0,
+            rw (numbered-2 a .next-number2 .ensures)
+            (came a (withThreads (storingRecords (l .loop .t) (change-2 a)) (c .each-thread .result))
+            (stored-spread (l .loop .t) (change-2 a) (c .before .before .if4 .taken) (c .each-thread .ensures))),
+          ),
+        ),
+      ),
+    )
+
+-- with no other thread changed
+loop-again-3 : tie.Need-loop-again-3 Inv-loop μ-loop
+unfolding putJob putOwn putInherited putProcess putFixed putThread putToken
+loop-again-3 c =
+    let a = c .before .before in
+    let p = lined a in
+    let e = sized-2 a .before .before .before .before in
+    let l = at-2 a in (
+      records-sized (l .loop .t) (change-2 a) (l .loop .inv .0),
+      (
+        fits (sized-2 a) .1,
+        (
+          omega (arith, p .put-line2 .ensures .1, p .put-line2 .kept .0, e .if1 .left),
+          (
+            p .put-line2 .kept .0 ∙ l .loop .inv .1 .1 .1 .0,
+            rw (numbered-2 a .next-number2 .ensures)
+            (came a (storingRecords (l .loop .t) (change-2 a))
+            (stored-alone (l .loop .t) (change-2 a) (c .if4 .left))),
+          ),
         ),
       ),
     )
 
 -- performed on the tables
-loop-again-3 : tie.Need-loop-again-3 Inv-loop μ-loop
-loop-again-3 c =
+loop-again-4 : tie.Need-loop-again-4 Inv-loop μ-loop
+loop-again-4 c =
     let p = c .before .before .before in
     let f = p .before .before .before .before in
     let m = f .before .before .before .before in
@@ -312,9 +369,12 @@ feed-spec =
     (λ c. search needs)
     (λ c. search needs)
     (λ c. search needs)
-    (λ c. omega (arith, fits (sized (numbered-2 c)) .0, fits (sized (numbered-2 c)) .1))
+    (λ c κs. search needs)
+    (λ c. omega (arith, fits (sized-2 (c .before .before .before .before)) .0, fits (sized-2 (c .before .before .before .before)) .1))
     loop-again-2
+    (λ c. omega (arith, fits (sized-2 (c .before .before)) .0, fits (sized-2 (c .before .before)) .1))
+    loop-again-3
     (λ c κs. tt)
     (λ c κs. omega (arith, sized (c .before .before .before .before .before .before .before) .before .before .before .before .if1 .left))
     (λ c. omega (arith, fits (sized (numbered-3 c)) .0, fits (sized (numbered-3 c)) .1))
-    loop-again-3)
+    loop-again-4)
