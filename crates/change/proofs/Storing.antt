@@ -3,6 +3,7 @@
 --     job-read, own-read, ..                   what was read
 --     stays                                    nothing differs
 --     stores-job, stores-process, ..           one record differs
+--     spreads, ..                              each thread of a process differs, and at most one record
 -- Assumes nothing.
 use Prim.Native.Nat.{ℕ, _%_, _<_}
 use native.Mathlib.Omega.{arith}
@@ -134,7 +135,7 @@ module _ (t : Tables) (j p n k : ℕ) {c : Change} (e : c ≡ defs.unchanged t j
   unfolding defs.stored defs.storing defs.spread if_then_else_ defs.unchanged putJob putOwn putInherited putProcess putFixed putThread putToken reply answered
   stores-token v w a x = rw (x, e, jobs-kept, own-kept, inherited-kept, processes-kept, fixed-kept)
 
-  -- each thread of a process, and its record
+  -- each thread of a process, and its record or a token
   pub spreads : {r : Change} (x : ℕ) (a : ℤ) → (x =? 0) ≡ false → r ≡ defs.answered (defs.withEach c x) a →
       defs.stored t r ≡ answered (withThreads t (map (eachIn x p) (t .threads))) a
   unfolding defs.stored defs.storing defs.spread if_then_else_ defs.unchanged putJob putOwn putInherited putProcess putFixed putThread putToken reply answered
@@ -145,3 +146,9 @@ module _ (t : Tables) (j p n k : ℕ) {c : Change} (e : c ≡ defs.unchanged t j
       defs.stored t r ≡ answered (withThreads (putProcess t (p % 64) v) (map (eachIn x p) (t .threads))) a
   unfolding defs.stored defs.storing defs.spread if_then_else_ defs.unchanged putJob putOwn putInherited putProcess putFixed putThread putToken reply answered
   stores-process-spreads v x a h y = rw (y, e, h, jobs-kept, own-kept, inherited-kept, fixed-kept, threads-kept, tokens-kept)
+
+  pub stores-token-spreads : {r : Change} (w : SuspendToken) (x : ℕ) (a : ℤ) → (x =? 0) ≡ false →
+      r ≡ defs.answered (defs.withToken (defs.withEach c x) w) a →
+      defs.stored t r ≡ answered (putToken (withThreads t (map (eachIn x p) (t .threads))) (k % 64) w) a
+  unfolding defs.stored defs.storing defs.spread if_then_else_ defs.unchanged putJob putOwn putInherited putProcess putFixed putThread putToken reply answered
+  stores-token-spreads w x a h y = rw (y, e, h, jobs-kept, own-kept, inherited-kept, processes-kept, fixed-kept, threads-kept)

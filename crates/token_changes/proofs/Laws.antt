@@ -4,14 +4,15 @@ use Prim.Native.Nat.{ℕ, _<_, _≤_, _%_}
 use mathlib.Core.Path.{_≡_, refl, sym, ap, _∙_}
 use mathlib.Core.Logic.{_≢_}
 use mathlib.Core.Bool.{Bool, true, false, not}
+use mathlib.Core.List.{map}
 use native.Mathlib.Omega.{arith}
-use borrow.Author.Tests.{lt-leb, le-ltb, eq-eqb, ne-eqb}
-use lib.Dec.{eqb}
+use borrow.Author.Tests.{lt-leb, le-ltb, eq-eqb, ne-eqb, not-true, not-false}
 use lib.IntN.{pos}
 use Rattle.laws.specs.Choice.{_=?_, if_then_else_}
 use Rattle.laws.specs.Guarded.{Guarded, _>>_, refuse_when_}
 use Rattle.laws.proofs.Flow.{passes}
-use Rattle.laws.proofs.Cases.{no-both, if-on}
+use Rattle.laws.proofs.Cases.{if-on}
+use Rattle.lists.specs.Each.{oneOf, eachIn}
 use Rattle.record_job.specs.declared.Job.{Job}
 use Rattle.record_process.specs.declared.Process.{Process}
 use Rattle.record_thread.specs.declared.Thread.{Thread}
@@ -26,34 +27,22 @@ use Rattle.records.specs.declared.tables.FoundToken.the-variants.{NoToken, OldT
 use Rattle.records.specs.declared.reply.Reply.{Reply}
 use Rattle.records.specs.Reply.{answered}
 use Rattle.records.specs.Tables.{jobAt, processAt, threadAt, tokenAt, putThread, putToken}
+use Rattle.records.specs.Tables.{withThreads}
 use Rattle.records.specs.Tables.{foundJob, foundProcess, foundThread, foundToken}
 use Rattle.owners.specs.declared.FoundTask.{FoundTask}
 use Rattle.owners.specs.declared.FoundTask.the-variants.{NoTask, OldTask}
 use Rattle.owners.specs.Owners.{tasksOf, madeJob, madeProcess, madeThread, foundTask}
 use Rattle.model.specs.Replies.{call, accept}
 use Rattle.model.specs.SuspendToken.{someAt, changeTask, suspendTask, resumeTask, createToken}
-use Rattle.model.specs.SuspendToken.{dropToken}
+use Rattle.model.specs.SuspendToken.{dropToken, changeIn}
 use Rattle.model.specs.ThreadCalls.{createTokenCall, dropTokenCall}
 use Rattle.model.proofs.Answering.{answering, refuses, accepts, the-task, the-token, no-token}
 use Rattle.model.proofs.Answering.{token-made, within-told}
 use Rattle.change.specs.declared.Change.{Change}
 use Rattle.change.specs.Change as defs
 use Rattle.change.proofs.Storing.{job-read, process-read, thread-read, token-read}
-use Rattle.token_changes.specs.TokenChanges.{taskMade}
-
--- a return that leaves the call open says nothing of it
-pub nothing-said : {A : Type 0} {c : Change} (t : Tables) (j p n k : ℕ) →
-    c ≡ defs.unchanged t j p n k → c .whole ≡ true → A
-unfolding defs.unchanged
-nothing-said t j p n k e h = no-both h (ap (λ (x : Change). x .whole) e)
-
-denied : (b : Bool) → not b ≡ true → b ≡ false
-denied true e = no-both e refl
-denied false e = refl
-
-granted : (b : Bool) → not b ≡ false → b ≡ true
-granted true e = refl
-granted false e = no-both refl e
+use Rattle.change.proofs.Storing.{stores-token, stores-token-spreads}
+use Rattle.token_changes.specs.TokenChanges.{taskMade, someCount, withTask}
 
 -- ---- A task by its kind ----------------------------------------------------------------------
 
@@ -96,22 +85,70 @@ module _ (t : Tables) (n new : ℕ) {c : Change} (e : c ≡ defs.unchanged t n n
       go false true h = rw (process-read t n n n new e h) (process-if (processAt t n .made) (processAt t n))
       go false false h = rw (thread-read t n n n new e h) (thread-if (threadAt t n .made) (threadAt t n))
 
+-- ---- The threads concerned --------------------------------------------------------------------
+
+one-suspends : (p : ℕ) → eachIn 1 p ≡ changeIn suspend p
+unfolding eachIn oneOf changeIn if_then_else_
+one-suspends p = refl
+
+one-resumes : (p : ℕ) → eachIn 2 p ≡ changeIn resume p
+unfolding eachIn oneOf changeIn if_then_else_
+one-resumes p = refl
+
+module _ (t : Tables) (j n k : ℕ) {c : Change} (e : c ≡ defs.unchanged t j n n k) where
+  some-told : (kind count : ℕ) → n < 128 →
+      someAt t kind n count ≡ someCount (c .thread) (t .threads) kind n count
+  unfolding someAt someCount
+  some-told kind count h = rw (thread-read t j n n k e h)
+
+  -- a token stored and each thread concerned changed
+  task-stored : (kind each : ℕ) → (each =? 0) ≡ false → (f : Thread → Thread) →
+      ((p : ℕ) → eachIn each p ≡ changeIn f p) → n < 128 → k < 64 → {r : Change} {w : SuspendToken} →
+      r ≡ defs.answered (defs.withToken (withTask c kind each (f (c .thread))) w) (pos 0) →
+      defs.stored t r ≡ answered (putToken (changeTask f t kind n) k w) (pos 0)
+  unfolding withTask changeTask if_then_else_
+  task-stored kind each z f q h i {r} {w} x = go (kind =? 1) x
+    where
+      in-thread : n % 128 ≡ n
+      in-thread = omega arith
+
+      in-token : k % 64 ≡ k
+      in-token = omega arith
+
+      go : (b : Bool) →
+          r ≡ defs.answered
+          (defs.withToken (if b then defs.withEach c each else defs.withThread c (f (c .thread))) w)
+          (pos 0) →
+          defs.stored t r
+          ≡ answered
+          (putToken
+          (if b then withThreads t (map (changeIn f n) (t .threads)) else putThread t n (f (threadAt t n)))
+          k w) (pos 0)
+      go true x = rw (stores-token-spreads t j n n k e w each (pos 0) z x, in-token, q n)
+      go false x =
+          rw (
+            stores-token t j n n k e (f (c .thread)) w (pos 0) x,
+            in-thread,
+            in-token,
+            thread-read t j n n k e h,
+          )
+
 -- ---- 0d --------------------------------------------------------------------------------------
 
 -- x is what the change stands for, m what the code was told of the kind, b of the task
 abbrev Creates : Tables → ℕ → ℕ → ℕ → Reply → Type 0
 Creates t new kind n x = x ≡ createTokenCall t new kind n
 
--- the thread suspended, and the token over it
-abbrev suspendedBy : Tables → ℕ → ℕ → ℕ → Thread → Tables
-suspendedBy t new kind n v = putToken (putThread t (n % 128) (suspend v)) (new % 64) (newToken kind n)
+unfoldable taskGuards : Tables → ℕ → ℕ → ℕ → Guarded Reply
+taskGuards t new kind n = do
+  refuse 106 when kind =? 0
+  refuse 107 when someAt t kind n FULL
+  accept (createToken t new kind n)
 
 unfoldable tokenGuards : Tables → ℕ → ℕ → ℕ → Guarded Reply
 tokenGuards t new kind n = do
   refuse 102 when tokenAt t new .made
-  refuse 106 when kind =? 0
-  refuse 107 when someAt t kind n FULL
-  accept (createToken t new kind n)
+  taskGuards t new kind n
 
 module _ (t : Tables) (new kind n : ℕ) where
   pub bad-kind : {x : Reply} → x ≡ answered t (pos 104) → 2 < kind → Creates t new kind n x
@@ -138,20 +175,20 @@ module _ (t : Tables) (new kind n : ℕ) where
         pub not-made : {x : Reply} → x ≡ answered t (pos 103) → not b ≡ true → Creates t new kind n x
         unfolding createTokenCall if_then_else_
         not-made s p =
-            let f : NoTask ≡ foundTask t kind n = task-told (denied b p) in
+            let f : NoTask ≡ foundTask t kind n = task-told (not-true b p) in
             search (answering, f)
 
         module _ (p : not b ≡ false) where
           made : OldTask ≡ foundTask t kind n
           unfolding if_then_else_
-          made = task-told (granted b p)
+          made = task-told (not-false b p)
 
           token-is : c .token ≡ tokenAt t new
           token-is = token-read t n n n new e i
 
           -- past the task, on to the guards of the token and of the counts
           goes-on : {x : Reply} → x ≡ call t (tokenGuards t new kind n) → Creates t new kind n x
-          unfolding createTokenCall tokenGuards
+          unfolding createTokenCall tokenGuards taskGuards
           goes-on s =
               passes _ _ _ (le-ltb _ _ h)
               (passes _ _ _ (lt-leb _ _ i) (passes _ _ _ (within-told o l) (the-task t _ _ made refl s)))
@@ -160,49 +197,43 @@ module _ (t : Tables) (new kind n : ℕ) where
           unfolding tokenGuards
           used s k = goes-on (refuses t _ _ s (token-made token-is k))
 
-          module _ (k : c .token .made ≡ false) (z : kind ≡ 2) where
-            some-at : (count : ℕ) → someAt t kind n count ≡ c .thread .suspends =? count
-            unfolding someAt if_then_else_
-            some-at count = rw (z, thread-read t n n n new e (within-tasks kind n o l))
-
-            no-job : eqb kind 0 ≡ false
-            no-job = rw z
-
-            pub full : {x : Reply} → x ≡ answered t (pos 107) → c .thread .suspends ≡ 65535 →
-                Creates t new kind n x
+          module _ (k : c .token .made ≡ false) where
+            past-token : {x : Reply} → x ≡ call t (taskGuards t new kind n) → Creates t new kind n x
             unfolding tokenGuards
-            full s w =
-                goes-on
-                (passes _ _ _ (token-made token-is k)
-                (passes _ _ _ no-job (refuses t _ _ s (some-at FULL ∙ eq-eqb _ _ w))))
+            past-token s = goes-on (passes _ _ _ (token-made token-is k) s)
 
-            stored : answered (suspendedBy t new kind n (c .thread)) (pos 0)
-                ≡ answered (createToken t new kind n) (pos 0)
-            unfolding createToken suspendTask changeTask if_then_else_
-            stored =
-                let l128 : n < 128 = within-tasks kind n o l in
-                let a : n % 128 ≡ n = omega arith in
-                let b : new % 64 ≡ new = omega arith in
-                rw (a, b, thread-read t n n n new e l128, z)
+            pub no-suspend : {x : Reply} → x ≡ answered t (pos 106) → kind ≡ 0 → Creates t new kind n x
+            unfolding taskGuards
+            no-suspend s z = past-token (refuses t _ _ s (eq-eqb _ _ z))
 
-            pub created : {x : Reply} → c .thread .suspends ≢ 65535 →
-                x ≡ answered (suspendedBy t new kind n (c .thread)) (pos 0) →
-                Creates t new kind n x
-            unfolding tokenGuards
-            created w s =
-                goes-on
-                (passes _ _ _ (token-made token-is k)
-                (passes _ _ _ no-job (passes _ _ _ (some-at FULL ∙ ne-eqb _ _ w) (accepts t (s ∙ stored)))))
+            module _ (z : kind ≢ 0) {f : Bool} (g : f ≡ someCount (c .thread) (t .threads) kind n FULL) where
+              some-full : someAt t kind n FULL ≡ f
+              some-full = some-told t n n new e kind FULL (within-tasks kind n o l) ∙ sym g
+
+              pub full : {x : Reply} → x ≡ answered t (pos 107) → f ≡ true → Creates t new kind n x
+              unfolding taskGuards
+              full s w = past-token (passes _ _ _ (ne-eqb _ _ z) (refuses t _ _ s (some-full ∙ w)))
+
+              module _ {r : Change}
+                  (s : r
+                  ≡ defs.answered
+                  (defs.withToken (withTask c kind 1 (suspend (c .thread))) (newToken kind n)) (pos 0)) where
+                stored : defs.stored t r ≡ answered (createToken t new kind n) (pos 0)
+                unfolding createToken suspendTask
+                stored =
+                    task-stored t n n new e kind 1 refl suspend one-suspends (within-tasks kind n o l) i s
+
+                pub created : f ≡ false → Creates t new kind n (defs.stored t r)
+                unfolding taskGuards
+                created w =
+                    past-token
+                    (passes _ _ _ (ne-eqb _ _ z) (passes _ _ _ (some-full ∙ w) (accepts t stored)))
 
 -- ---- 0e --------------------------------------------------------------------------------------
 
 -- o has the token read, c the thread that it names
 abbrev Drops : Tables → ℕ → Reply → Type 0
 Drops t k x = x ≡ dropTokenCall t k
-
--- the thread resumed, and the token dropped
-abbrev resumedBy : Tables → ℕ → SuspendToken → Thread → Tables
-resumedBy t k w v = putToken (putThread t (w .name % 128) (resume v)) (k % 64) (drop w)
 
 unfoldable countGuards : Tables → ℕ → SuspendToken → Guarded Reply
 countGuards t k v = do
@@ -229,37 +260,36 @@ module _ (t : Tables) (k : ℕ) where
     pub not-held : {x : Reply} → x ≡ answered t (pos 103) → not (o .token .held) ≡ true → Drops t k x
     unfolding dropTokenCall foundToken
     not-held s p =
-        let f : tokenAt t k .held ≡ false = rw (← held-is) (denied (o .token .held) p) in
+        let f : tokenAt t k .held ≡ false = rw (← held-is) (not-true (o .token .held) p) in
         passes _ _ _ (lt-leb _ _ h) (no-token t _ _ refl (lost f) s)
 
-    module _ (p : not (o .token .held) ≡ false) (z : o .token .kind ≢ 1) (l : o .token .name < 128)
-        {c : Change} (e : c ≡ defs.unchanged t 0 0 (o .token .name) k) where
+    module _ (p : not (o .token .held) ≡ false) (l : o .token .name < 128)
+        {c : Change} (e : c ≡ defs.unchanged t 0 (o .token .name) (o .token .name) k)
+        {f : Bool} (g : f ≡ someCount (c .thread) (t .threads) (o .token .kind) (o .token .name) 0) where
       found : {x : Reply} → x ≡ call t (countGuards t k (tokenAt t k)) → Drops t k x
       unfolding dropTokenCall foundToken countGuards
       found s =
-          let f : tokenAt t k .held ≡ true = rw (← held-is) (granted (o .token .held) p) in
-          passes _ _ _ (lt-leb _ _ h) (the-token t _ _ refl (kept f) s)
+          let q : tokenAt t k .held ≡ true = rw (← held-is) (not-false (o .token .held) p) in
+          passes _ _ _ (lt-leb _ _ h) (the-token t _ _ refl (kept q) s)
 
-      some-held : (count : ℕ) →
-          someAt t (tokenAt t k .kind) (tokenAt t k .name) count ≡ c .thread .suspends =? count
-      unfolding someAt if_then_else_
-      some-held count =
-          rw (← held-is, ne-eqb (o .token .kind) 1 z, thread-read t 0 0 (o .token .name) k e l)
+      some-held : someAt t (tokenAt t k .kind) (tokenAt t k .name) 0 ≡ f
+      some-held = rw (← held-is) (some-told t 0 (o .token .name) k e (o .token .kind) 0 l ∙ sym g)
 
-      pub resumed : {x : Reply} → x ≡ answered t (pos 106) → c .thread .suspends ≡ 0 → Drops t k x
+      pub resumed : {x : Reply} → x ≡ answered t (pos 106) → f ≡ true → Drops t k x
       unfolding countGuards
-      resumed s w = found (refuses t _ _ s (some-held 0 ∙ eq-eqb _ _ w))
+      resumed s w = found (refuses t _ _ s (some-held ∙ w))
 
-      put-back : answered (resumedBy t k (o .token) (c .thread)) (pos 0)
-          ≡ answered (dropToken t k (tokenAt t k .kind) (tokenAt t k .name)) (pos 0)
-      unfolding dropToken resumeTask changeTask if_then_else_
-      put-back =
-          let a : o .token .name % 128 ≡ o .token .name = omega arith in
-          let b : k % 64 ≡ k = omega arith in
-          rw (← held-is, ne-eqb (o .token .kind) 1 z, a, b, thread-read t 0 0 (o .token .name) k e l)
+      module _ {r : Change}
+          (s : r
+          ≡ defs.answered
+          (defs.withToken (withTask c (o .token .kind) 2 (resume (c .thread))) (drop (o .token)))
+          (pos 0)) where
+        put-back : defs.stored t r ≡ answered (dropToken t k (tokenAt t k .kind) (tokenAt t k .name)) (pos 0)
+        unfolding dropToken resumeTask
+        put-back =
+            rw (← held-is)
+            (task-stored t 0 (o .token .name) k e (o .token .kind) 2 refl resume one-resumes l h s)
 
-      pub dropped : {x : Reply} → c .thread .suspends ≢ 0 →
-          x ≡ answered (resumedBy t k (o .token) (c .thread)) (pos 0) →
-          Drops t k x
-      unfolding countGuards
-      dropped w s = found (passes _ _ _ (some-held 0 ∙ ne-eqb _ _ w) (accepts t (s ∙ put-back)))
+        pub dropped : f ≡ false → Drops t k (defs.stored t r)
+        unfolding countGuards
+        dropped w = found (passes _ _ _ (some-held ∙ w) (accepts t put-back))

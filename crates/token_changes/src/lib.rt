@@ -1,12 +1,13 @@
-// token_changes: a suspend token made over a thread, and one dropped. Follows suspend_token.rs. A token over
-// a process, whose threads are more than one record, is left open.
+// token_changes: a suspend token made over a process or a thread, and one dropped. Follows suspend_token.rs.
 ghost use Rattle.model.specs.ThreadCalls.{createTokenCall, dropTokenCall};
 ghost use mathlib.Core.Path.{_≡_};
 ghost use Rattle.change.specs.Change.{Comes};
-ghost use Rattle.token_changes.specs.TokenChanges.{taskMade};
+ghost use Rattle.token_changes.specs.TokenChanges.{taskMade, someCount, withTask};
 use change::Change;
 use change::unchanged;
 use error::Refusal;
+use lists::Each;
+use record_thread::Thread;
 use record_token::Kind;
 use record_token::SuspendToken;
 use records::tables::Tables;
@@ -27,7 +28,27 @@ fn task_made(c: Change, kind: u8) -> bool
     v.made
 }
 
-// 0d: `SuspendToken::create`.
+// Whether a thread concerned has this suspend count; v is the thread of that name.
+fn some_count(v: Thread, threads: [Thread; 128], kind: u8, name: u8, count: u16) -> bool
+    ensures { λ r. ⌜ r ≡ someCount v threads kind name count ⌝ }
+{
+    if kind == Kind::PROCESS {
+        return lists::some_count(threads, name, count);
+    }
+    v.suspends == count
+}
+
+// Each thread of the process changed, or the one thread, which becomes v.
+fn with_task(c: Change, kind: u8, each: u8, v: Thread) -> Change
+    ensures { λ r. ⌜ r ≡ withTask c kind each v ⌝ }
+{
+    if kind == Kind::PROCESS {
+        return c.with_each(each);
+    }
+    c.with_thread(v)
+}
+
+// 0d: `SuspendToken::create`. A job can't be suspended: the Rust panics.
 pub fn create(t: Tables, new: u8, kind: u8, name: u8) -> Change
     ensures { λ r. ⌜ Comes t (createTokenCall t new kind name) r ⌝ }
 {
@@ -48,14 +69,15 @@ pub fn create(t: Tables, new: u8, kind: u8, name: u8) -> Change
     if k.made {
         return c.answered(Refusal::USED);
     }
-    if kind != Kind::THREAD {
-        return c;
+    if kind == Kind::JOB {
+        return c.answered(Refusal::PANICS);
     }
     let v = c.thread;
-    if v.suspends == 65535 {
+    let threads = t.threads;
+    if some_count(v, threads, kind, name, 65535) {
         return c.answered(Refusal::FULL);
     }
-    c.with_thread(v.suspend())
+    with_task(c, kind, Each::SUSPEND, v.suspend())
         .with_token(SuspendToken::new(kind, name))
         .answered(0)
 }
@@ -66,22 +88,22 @@ pub fn drop(t: Tables, token: u8) -> Change
 {
     let held = unchanged(t, 0, 0, 0, token);
     let k = held.token;
-    let c = unchanged(t, 0, 0, k.name, token);
+    let c = unchanged(t, 0, k.name, k.name, token);
     if 64 <= token {
         return c.answered(Refusal::PAST_TABLE);
     }
     if !k.held {
         return c.answered(Refusal::NOT_MADE);
     }
-    if k.kind == Kind::PROCESS {
-        return c;
-    }
     if 128 <= k.name {
         return c;
     }
     let v = c.thread;
-    if v.suspends == 0 {
+    let threads = t.threads;
+    if some_count(v, threads, k.kind, k.name, 0) {
         return c.answered(Refusal::PANICS);
     }
-    c.with_thread(v.resume()).with_token(k.drop()).answered(0)
+    with_task(c, k.kind, Each::RESUME, v.resume())
+        .with_token(k.drop())
+        .answered(0)
 }

@@ -1,6 +1,6 @@
-use Rattle.change.proofs.Storing.{stays, stores-token}
-use Rattle.token_changes.proofs.Laws.{nothing-said, bad-kind, past-tokens, past-tasks}
-use Rattle.token_changes.proofs.Laws.{not-made, used, full, created}
+use Rattle.change.proofs.Storing.{stays}
+use Rattle.token_changes.proofs.Laws.{bad-kind, past-tokens, past-tasks}
+use Rattle.token_changes.proofs.Laws.{not-made, used, no-suspend, full, created}
 use borrow.Author.Needs.{needs}
 use Rattle.token_changes.proofs.create.Statement.{statement}
 use Rattle.token_changes.proofs.create.Tie as tie
@@ -58,13 +58,26 @@ create-spec =
     used _ _ _ _ (k .if1 .left) (l .if2 .left) (m .tasks-of .ensures) (n .if3 .left)
     (u .unchanged .ensures) (b .task-made .ensures) (f .if4 .left)
     (stays _ _ _ _ _ (u .unchanged .ensures) _ (c .answered5 .ensures)) (i .if5 .taken))
-    (λ c w.
-    let u = c .before .before .before .before .before .before .before .before .before in
-    nothing-said _ _ _ _ _ (u .unchanged .ensures) w)
     (λ c κs. search needs)
     (λ c w.
     let i = c .before in
-    let z = i .before .before .before in
+    let g = i .before in
+    let f = g .before .before in
+    let b = f .before in
+    let n = b .before in
+    let m = n .before in
+    let l = m .before in
+    let k = l .before in
+    let u = k .before in
+    no-suspend _ _ _ _ (k .if1 .left) (l .if2 .left) (m .tasks-of .ensures) (n .if3 .left)
+    (u .unchanged .ensures) (b .task-made .ensures) (f .if4 .left) (g .if5 .left)
+    (stays _ _ _ _ _ (u .unchanged .ensures) _ (c .answered6 .ensures)) (i .if6 .taken))
+    (λ c κs. search needs)
+    (λ c κs. search needs)
+    (λ c w.
+    let i = c .before in
+    let v = i .before in
+    let z = v .before .before .before in
     let g = z .before in
     let f = g .before .before in
     let b = f .before in
@@ -75,7 +88,8 @@ create-spec =
     let u = k .before in
     full _ _ _ _ (k .if1 .left) (l .if2 .left) (m .tasks-of .ensures) (n .if3 .left)
     (u .unchanged .ensures) (b .task-made .ensures) (f .if4 .left) (g .if5 .left) (z .if6 .left)
-    (stays _ _ _ _ _ (u .unchanged .ensures) _ (c .answered6 .ensures)) (i .if7 .taken))
+    (v .some-count .ensures)
+    (stays _ _ _ _ _ (u .unchanged .ensures) _ (c .answered7 .ensures)) (i .if7 .taken))
     (λ c κs. search needs)
     (λ c κs. search needs)
     (λ c κs. search needs)
@@ -87,7 +101,8 @@ create-spec =
     let k3 = k2 .before in
     let s = k3 .before in
     let i = s .before in
-    let z = i .before .before .before in
+    let v = i .before in
+    let z = v .before .before .before in
     let g = z .before in
     let f = g .before .before in
     let b = f .before in
@@ -99,10 +114,9 @@ create-spec =
     let e = simp (
       k1 .with-token .ensures,
       k2 .new .ensures,
-      k3 .with-thread .ensures,
+      k3 .with-task .ensures,
       s .suspend .ensures,
-    ) at (c .answered7 .ensures) in
+    ) at (c .answered8 .ensures) in
     created _ _ _ _ (k .if1 .left) (l .if2 .left) (m .tasks-of .ensures) (n .if3 .left)
     (u .unchanged .ensures) (b .task-made .ensures) (f .if4 .left) (g .if5 .left) (z .if6 .left)
-    (i .if7 .left)
-    (stores-token _ _ _ _ _ (u .unchanged .ensures) _ _ _ e)))
+    (v .some-count .ensures) e (i .if7 .left)))
