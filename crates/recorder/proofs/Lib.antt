@@ -2,5 +2,3 @@
 pub mod Parts
 pub mod Storing
 pub mod Feeding
-pub mod Answered
-pub mod Whole

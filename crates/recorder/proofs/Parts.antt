@@ -1,7 +1,5 @@
--- The definitions by parts: how far each goes does not depend on the steps that it is given, so each
--- is its own step.
+-- A part of the stream does not depend on the steps that it is given, so it is its own step.
 --     fed-is           a part of the stream is a command and the part after it
---     transcript-is    so is the transcript
 -- Assumes nothing.
 use Prim.Native.Nat.{ℕ, zero, suc, _+_, _-_, _≤_, _<_}
 use native.Mathlib.Omega.{arith}
@@ -16,10 +14,10 @@ use Rattle.commands.specs.declared.Next.the-variants.{Wait, Stop, Whole}
 use Rattle.commands.specs.Commands.{nextOf}
 use Rattle.commands.proofs.Stays.{left-less}
 use Rattle.recorder.specs.declared.State.{State}
-use Rattle.recorder.specs.Recorder.{onNext, after, line, stopAt, closing, Part, part, ahead}
-use Rattle.recorder.specs.Recorder.{fedStep, fedWithin, fed, transcriptStep, transcriptWithin, transcript}
+use Rattle.recorder.specs.Recorder.{onNext, after, line, stopAt, Part, part, ahead}
+use Rattle.recorder.specs.Recorder.{fedStep, fedWithin, fed}
 
-on-same : {A : Type 0} (x : Next) (a b : A) (K L : ℕ → A) → ((n : ℕ) → x ≡ Whole n → K n ≡ L n) →
+pub on-same : {A : Type 0} (x : Next) (a b : A) (K L : ℕ → A) → ((n : ℕ) → x ≡ Whole n → K n ≡ L n) →
     onNext x a b K ≡ onNext x a b L
 on-same Wait a b K L h = refl
 on-same Stop a b K L h = refl
@@ -53,32 +51,4 @@ unfolding fed fedWithin
 fed-is room s bs =
     fedStep-same (λ r u cs. fedWithin (length bs) r u cs) fed room s bs
     (λ n r u e. fed-same (length bs) (suc (length (drop n bs))) r u (drop n bs) (left-less bs n e)
-    (omega arith))
-
--- ---- the transcript
-transcriptStep-same : (K L : State → List ℕ → List ℕ) (s : State) (bs : List ℕ) →
-    ((n : ℕ) (u : State) → nextOf bs ≡ Whole n → K u (drop n bs) ≡ L u (drop n bs)) →
-    transcriptStep K s bs ≡ transcriptStep L s bs
-transcriptStep-same K L s bs h =
-    on-same (nextOf bs) (closing s bs) (stopAt s) (λ n. line s n bs ++ K (after s n bs) (drop n bs))
-    (λ n. line s n bs ++ L (after s n bs) (drop n bs))
-    (λ n e. ap (λ (l : List ℕ). line s n bs ++ l) (h n (after s n bs) e))
-
-transcript-same : (f g : ℕ) (s : State) (bs : List ℕ) → length bs < f → length bs < g →
-    transcriptWithin f s bs ≡ transcriptWithin g s bs
-unfolding transcriptWithin
-transcript-same zero g s bs l m = absurd (omega arith)
-transcript-same (suc f) zero s bs l m = absurd (omega arith)
-transcript-same (suc f) (suc g) s bs l m =
-    transcriptStep-same (λ u cs. transcriptWithin f u cs) (λ u cs. transcriptWithin g u cs) s bs
-    (λ n u e. transcript-same f g u (drop n bs) (omega (arith, left-less bs n e)) (omega (
-      arith,
-      left-less bs n e,
-    )))
-
-pub transcript-is : (s : State) (bs : List ℕ) → transcript s bs ≡ transcriptStep transcript s bs
-unfolding transcript transcriptWithin
-transcript-is s bs =
-    transcriptStep-same (λ u cs. transcriptWithin (length bs) u cs) transcript s bs
-    (λ n u e. transcript-same (length bs) (suc (length (drop n bs))) u (drop n bs) (left-less bs n e)
     (omega arith))

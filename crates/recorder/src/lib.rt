@@ -1,13 +1,12 @@
 // recorder: a stream of commands, taken in parts of any size, and the lines that are written for it.
-// specs/Recorder.antt says what is written for a whole stream, and that no cut into parts changes it.
-ghost use mathlib.Core.Bool.{true};
+// specs/Recorder.antt says what is written for a part; that no cut into parts changes the whole is in `stream`.
 ghost use mathlib.Core.Path.{_≡_};
 ghost use Prim.Native.Nat.{_≤_};
 ghost use lib.ListN.{length};
 ghost use Rattle.io.specs.Counts.{Counts};
 ghost use Rattle.lines.specs.Line.{Put};
 ghost use Rattle.recorder.specs.Recorder.{nextNumber, freshState, fedAt, fed};
-ghost use Rattle.recorder.specs.Recorder.{Feeds, closedWithin, Recorder};
+ghost use Rattle.recorder.specs.Recorder.{Feeds, closedWithin};
 use commands::Next;
 use job_policy::JobPolicy;
 use records::tables::Tables;
@@ -164,11 +163,4 @@ pub fn close(state: State, left: &[u8], out: &mut [u8]) -> usize
         return 0;
     }
     lines::put_stop(out, 0, next_number(state.number))
-}
-
-// What holds of the definitions: no cut of the input into parts changes what is written.
-pub fn claims() -> bool
-    ensures { λ r. ⌜ (r ≡ true) × Recorder ⌝ }
-{
-    true
 }

@@ -24,12 +24,14 @@ use Rattle.commands.specs.declared.Next.the-variants.{Wait, Stop, Whole}
 use Rattle.commands.specs.Commands.{nextOf}
 use Rattle.commands.proofs.Stays.{whole-bounds, left-less, front-stays}
 use Rattle.calls.specs.Calls.{callIn}
 use Rattle.recorder.specs.declared.State.{State}
-use Rattle.recorder.specs.Recorder.{freshState, replyTo, after, line, lineFor, stopAt, closing, onNext}
-use Rattle.recorder.specs.Recorder.{Part, part, ahead, fedStep, fedWithin, fed, transcriptStep, transcript}
-use Rattle.recorder.specs.Recorder.{Event, read, call, bytesOf, progress, Drained, Recorder}
-use Rattle.recorder.proofs.Parts.{fed-is, transcript-is}
-use Rattle.recorder.proofs.Answered.{as-answered}
+use Rattle.recorder.specs.Recorder.{freshState, replyTo, after, line, lineFor, stopAt, closing}
+use Rattle.recorder.specs.Recorder.{onNext, Part, part, ahead, fedStep, fedWithin, fed}
+use Rattle.stream.specs.Stream.{transcriptStep, transcript, Event, read, call, bytesOf}
+use Rattle.stream.specs.Stream.{progress, Drained, Stream}
+use Rattle.recorder.proofs.Parts.{fed-is}
+use Rattle.stream.proofs.Transcript.{transcript-is}
+use Rattle.stream.proofs.Answered.{as-answered}
 
 module _ (bs cs : List ℕ) where
   -- the reply to a whole command, whatever follows it
@@ -180,6 +182,6 @@ any-parts s bs (call room ∷ es) d =
     (λ e. any-parts (fed room s bs .state) (drop (fed room s bs .consumed) bs) es (d e)))
     ∙ sym (part-law room s bs (bytesOf es))
 
-pub recorder : Recorder
-recorder =
+pub stream : Stream
+stream =
     record { anyParts = λ es d. any-parts freshState [] es d; asAnswered = λ bs. as-answered freshState bs }

@@ -12,9 +12,10 @@ use Rattle.commands.specs.declared.Next.the-variants.{Wait, Stop, Whole}
 use Rattle.commands.specs.Commands.{nextOf}
 use Rattle.commands.proofs.Stays.{left-less}
 use Rattle.calls.specs.Calls.{callIn}
 use Rattle.recorder.specs.declared.State.{State}
-use Rattle.recorder.specs.Recorder.{onNext, after, line, stopAt, closing, transcriptWithin, transcript}
-use Rattle.recorder.specs.Recorder.{callsWithin, callsIn, leftWithin, leftIn, linesFrom}
+use Rattle.recorder.specs.Recorder.{onNext, after, line, stopAt, closing}
+use Rattle.stream.specs.Stream.{transcriptWithin, transcript, callsWithin, callsIn}
+use Rattle.stream.specs.Stream.{leftWithin, leftIn, linesFrom}
 
 -- where there is no command, something is left
 stop-left : (bs l : List ℕ) → nextOf bs ≡ Stop → l ≡ (if length bs =? 0 then [] else l)

@@ -1,0 +1,4 @@
+-- What the claim of the stream rests on.
+mod Transcript
+mod Answered
+mod Whole
