@@ -4,15 +4,15 @@ use Prim.Native.Nat.{ℕ, _<_, _≤_, _%_}
 use mathlib.Core.Path.{_≡_, refl, sym, ap, _∙_}
 use mathlib.Core.Logic.{_≢_}
 use mathlib.Core.Bool.{Bool, true, false, not}
-use mathlib.Core.List.{map}
 use native.Mathlib.Omega.{arith}
 use borrow.Author.Tests.{lt-leb, le-ltb, eq-eqb, ne-eqb, not-true, not-false}
 use lib.IntN.{pos}
 use Rattle.laws.specs.Choice.{_=?_, if_then_else_}
 use Rattle.laws.specs.Guarded.{Guarded, _>>_, refuse_when_}
+use Rattle.laws.specs.Lists.{any}
 use Rattle.laws.proofs.Flow.{passes}
 use Rattle.laws.proofs.Cases.{if-on}
-use Rattle.lists.specs.Each.{oneOf, eachIn}
+use Rattle.lists.specs.Each.{hasCount, oneOf, eachIn}
 use Rattle.record_job.specs.declared.Job.{Job}
 use Rattle.record_process.specs.declared.Process.{Process}
 use Rattle.record_thread.specs.declared.Thread.{Thread}
@@ -26,8 +26,7 @@ use Rattle.records.specs.declared.tables.FoundThread.the-variants.{NoThread, Ol
 use Rattle.records.specs.declared.tables.FoundToken.the-variants.{NoToken, OldToken}
 use Rattle.records.specs.declared.reply.Reply.{Reply}
 use Rattle.records.specs.Reply.{answered}
-use Rattle.records.specs.Tables.{jobAt, processAt, threadAt, tokenAt, putThread, putToken}
-use Rattle.records.specs.Tables.{withThreads}
+use Rattle.records.specs.Tables.{jobAt, processAt, threadAt, tokenAt, putToken}
 use Rattle.records.specs.Tables.{foundJob, foundProcess, foundThread, foundToken}
 use Rattle.owners.specs.declared.FoundTask.{FoundTask}
 use Rattle.owners.specs.declared.FoundTask.the-variants.{NoTask, OldTask}
@@ -42,7 +41,7 @@ use Rattle.change.specs.declared.Change.{Change}
 use Rattle.change.specs.Change as defs
 use Rattle.change.proofs.Storing.{job-read, process-read, thread-read, token-read}
 use Rattle.change.proofs.Storing.{stores-token, stores-token-spreads}
-use Rattle.token_changes.specs.TokenChanges.{taskMade, someCount, withTask}
+use Rattle.token_changes.specs.TokenChanges.{taskMade}
 
 -- ---- A task by its kind ----------------------------------------------------------------------
 
@@ -95,43 +94,39 @@ one-resumes : (p : ℕ) → eachIn 2 p ≡ changeIn resume p
 unfolding eachIn oneOf changeIn if_then_else_
 one-resumes p = refl
 
-module _ (t : Tables) (j n k : ℕ) {c : Change} (e : c ≡ defs.unchanged t j n n k) where
-  some-told : (kind count : ℕ) → n < 128 →
-      someAt t kind n count ≡ someCount (c .thread) (t .threads) kind n count
-  unfolding someAt someCount
-  some-told kind count h = rw (thread-read t j n n k e h)
+some-of-process : (t : Tables) (kind n count : ℕ) → kind ≡ 1 →
+    someAt t kind n count ≡ any (hasCount n count) (t .threads)
+unfolding someAt if_then_else_
+some-of-process t kind n count z = rw z
 
-  -- a token stored and each thread concerned changed
-  task-stored : (kind each : ℕ) → (each =? 0) ≡ false → (f : Thread → Thread) →
-      ((p : ℕ) → eachIn each p ≡ changeIn f p) → n < 128 → k < 64 → {r : Change} {w : SuspendToken} →
-      r ≡ defs.answered (defs.withToken (withTask c kind each (f (c .thread))) w) (pos 0) →
-      defs.stored t r ≡ answered (putToken (changeTask f t kind n) k w) (pos 0)
-  unfolding withTask changeTask if_then_else_
-  task-stored kind each z f q h i {r} {w} x = go (kind =? 1) x
-    where
-      in-thread : n % 128 ≡ n
-      in-thread = omega arith
+-- r stores the token w, and each thread of the task changed by f
+abbrev Stores : Tables → ℕ → ℕ → ℕ → (Thread → Thread) → SuspendToken → Change → Type 0
+Stores t kind n k f w r = defs.stored t r ≡ answered (putToken (changeTask f t kind n) k w) (pos 0)
 
-      in-token : k % 64 ≡ k
-      in-token = omega arith
+module _ (t : Tables) (j n k : ℕ) {c : Change} (e : c ≡ defs.unchanged t j n n k) (i : k < 64)
+    (kind : ℕ) where
+  process-stored : (each : ℕ) → (each =? 0) ≡ false → (f : Thread → Thread) → eachIn each n ≡ changeIn f n →
+      kind ≡ 1 → {w : SuspendToken} {r : Change} →
+      r ≡ defs.answered (defs.withToken (defs.withEach c each) w) (pos 0) → Stores t kind n k f w r
+  unfolding changeTask if_then_else_
+  process-stored each a f q z {w} x =
+      let b : k % 64 ≡ k = omega arith in
+      rw (stores-token-spreads t j n n k e w each (pos 0) a x, b, q, z)
 
-      go : (b : Bool) →
-          r ≡ defs.answered
-          (defs.withToken (if b then defs.withEach c each else defs.withThread c (f (c .thread))) w)
-          (pos 0) →
-          defs.stored t r
-          ≡ answered
-          (putToken
-          (if b then withThreads t (map (changeIn f n) (t .threads)) else putThread t n (f (threadAt t n)))
-          k w) (pos 0)
-      go true x = rw (stores-token-spreads t j n n k e w each (pos 0) z x, in-token, q n)
-      go false x =
-          rw (
-            stores-token t j n n k e (f (c .thread)) w (pos 0) x,
-            in-thread,
-            in-token,
-            thread-read t j n n k e h,
-          )
+  module _ (z : kind ≢ 1) (h : n < 128) where
+    some-of-thread : (count : ℕ) → someAt t kind n count ≡ c .thread .suspends =? count
+    unfolding someAt if_then_else_
+    some-of-thread count = rw (ne-eqb kind 1 z, thread-read t j n n k e h)
+
+    thread-stored : (f : Thread → Thread) {w : SuspendToken} {r : Change} →
+        r ≡ defs.answered (defs.withToken (defs.withThread c (f (c .thread))) w) (pos 0) →
+        Stores t kind n k f w r
+    unfolding changeTask if_then_else_
+    thread-stored f {w} x =
+        let a : n % 128 ≡ n = omega arith in
+        let b : k % 64 ≡ k = omega arith in
+        let y = stores-token t j n n k e (f (c .thread)) w (pos 0) x in
+        rw (y, a, b, ne-eqb kind 1 z, thread-read t j n n k e h)
 
 -- ---- 0d --------------------------------------------------------------------------------------
 
@@ -139,11 +134,15 @@ module _ (t : Tables) (j n k : ℕ) {c : Change} (e : c ≡ defs.unchanged t j n
 abbrev Creates : Tables → ℕ → ℕ → ℕ → Reply → Type 0
 Creates t new kind n x = x ≡ createTokenCall t new kind n
 
+unfoldable countGuards : Tables → ℕ → ℕ → ℕ → Guarded Reply
+countGuards t new kind n = do
+  refuse 107 when someAt t kind n FULL
+  accept (createToken t new kind n)
+
 unfoldable taskGuards : Tables → ℕ → ℕ → ℕ → Guarded Reply
 taskGuards t new kind n = do
   refuse 106 when kind =? 0
-  refuse 107 when someAt t kind n FULL
-  accept (createToken t new kind n)
+  countGuards t new kind n
 
 unfoldable tokenGuards : Tables → ℕ → ℕ → ℕ → Guarded Reply
 tokenGuards t new kind n = do
@@ -188,7 +187,7 @@ module _ (t : Tables) (new kind n : ℕ) where
 
           -- past the task, on to the guards of the token and of the counts
           goes-on : {x : Reply} → x ≡ call t (tokenGuards t new kind n) → Creates t new kind n x
-          unfolding createTokenCall tokenGuards taskGuards
+          unfolding createTokenCall tokenGuards taskGuards countGuards
           goes-on s =
               passes _ _ _ (le-ltb _ _ h)
               (passes _ _ _ (lt-leb _ _ i) (passes _ _ _ (within-told o l) (the-task t _ _ made refl s)))
@@ -206,28 +205,49 @@ module _ (t : Tables) (new kind n : ℕ) where
             unfolding taskGuards
             no-suspend s z = past-token (refuses t _ _ s (eq-eqb _ _ z))
 
-            module _ (z : kind ≢ 0) {f : Bool} (g : f ≡ someCount (c .thread) (t .threads) kind n FULL) where
-              some-full : someAt t kind n FULL ≡ f
-              some-full = some-told t n n new e kind FULL (within-tasks kind n o l) ∙ sym g
-
-              pub full : {x : Reply} → x ≡ answered t (pos 107) → f ≡ true → Creates t new kind n x
+            module _ (z : kind ≢ 0) where
+              past-kind : {x : Reply} → x ≡ call t (countGuards t new kind n) → Creates t new kind n x
               unfolding taskGuards
-              full s w = past-token (passes _ _ _ (ne-eqb _ _ z) (refuses t _ _ s (some-full ∙ w)))
+              past-kind s = past-token (passes _ _ _ (ne-eqb _ _ z) s)
 
-              module _ {r : Change}
-                  (s : r
-                  ≡ defs.answered
-                  (defs.withToken (withTask c kind 1 (suspend (c .thread))) (newToken kind n)) (pos 0)) where
-                stored : defs.stored t r ≡ answered (createToken t new kind n) (pos 0)
-                unfolding createToken suspendTask
-                stored =
-                    task-stored t n n new e kind 1 refl suspend one-suspends (within-tasks kind n o l) i s
+              module _ (y : kind ≡ 1) {f : Bool} (g : f ≡ any (hasCount n FULL) (t .threads)) where
+                one-full : someAt t kind n FULL ≡ f
+                one-full = some-of-process t kind n FULL y ∙ sym g
 
-                pub created : f ≡ false → Creates t new kind n (defs.stored t r)
-                unfolding taskGuards
-                created w =
-                    past-token
-                    (passes _ _ _ (ne-eqb _ _ z) (passes _ _ _ (some-full ∙ w) (accepts t stored)))
+                pub full-process : {x : Reply} → x ≡ answered t (pos 107) → f ≡ true → Creates t new kind n x
+                unfolding countGuards
+                full-process s v = past-kind (refuses t _ _ s (one-full ∙ v))
+
+                pub over-process : {r : Change} → f ≡ false →
+                    r ≡ defs.answered (defs.withToken (defs.withEach c 1) (newToken kind n)) (pos 0) →
+                    Creates t new kind n (defs.stored t r)
+                unfolding countGuards createToken suspendTask
+                over-process v s =
+                    past-kind
+                    (passes _ _ _ (one-full ∙ v)
+                    (accepts t (process-stored t n n new e i kind 1 refl suspend (one-suspends n) y s)))
+
+              module _ (y : kind ≢ 1) where
+                in-threads : n < 128
+                in-threads = within-tasks kind n o l
+
+                is-full : someAt t kind n FULL ≡ c .thread .suspends =? FULL
+                is-full = some-of-thread t n n new e i kind y in-threads FULL
+
+                pub full-thread : {x : Reply} → x ≡ answered t (pos 107) → c .thread .suspends ≡ 65535 →
+                    Creates t new kind n x
+                unfolding countGuards
+                full-thread s v = past-kind (refuses t _ _ s (is-full ∙ eq-eqb _ _ v))
+
+                pub over-thread : {r : Change} → c .thread .suspends ≢ 65535 →
+                    r ≡ defs.answered (defs.withToken (defs.withThread c (suspend (c .thread)))
+                    (newToken kind n))
+                    (pos 0) → Creates t new kind n (defs.stored t r)
+                unfolding countGuards createToken suspendTask
+                over-thread v s =
+                    past-kind
+                    (passes _ _ _ (is-full ∙ ne-eqb _ _ v)
+                    (accepts t (thread-stored t n n new e i kind y in-threads suspend s)))
 
 -- ---- 0e --------------------------------------------------------------------------------------
 
@@ -235,8 +255,8 @@ module _ (t : Tables) (new kind n : ℕ) where
 abbrev Drops : Tables → ℕ → Reply → Type 0
 Drops t k x = x ≡ dropTokenCall t k
 
-unfoldable countGuards : Tables → ℕ → SuspendToken → Guarded Reply
-countGuards t k v = do
+unfoldable heldGuards : Tables → ℕ → SuspendToken → Guarded Reply
+heldGuards t k v = do
   refuse 106 when someAt t (v .kind) (v .name) 0
   accept (dropToken t k (v .kind) (v .name))
 
@@ -263,33 +283,55 @@ module _ (t : Tables) (k : ℕ) where
         let f : tokenAt t k .held ≡ false = rw (← held-is) (not-true (o .token .held) p) in
         passes _ _ _ (lt-leb _ _ h) (no-token t _ _ refl (lost f) s)
 
-    module _ (p : not (o .token .held) ≡ false) (l : o .token .name < 128)
-        {c : Change} (e : c ≡ defs.unchanged t 0 (o .token .name) (o .token .name) k)
-        {f : Bool} (g : f ≡ someCount (c .thread) (t .threads) (o .token .kind) (o .token .name) 0) where
-      found : {x : Reply} → x ≡ call t (countGuards t k (tokenAt t k)) → Drops t k x
-      unfolding dropTokenCall foundToken countGuards
+    module _ (p : not (o .token .held) ≡ false) {c : Change}
+        (e : c ≡ defs.unchanged t 0 (o .token .name) (o .token .name) k) where
+      -- the token is held, on to the guards of the counts
+      found : {x : Reply} → x ≡ call t (heldGuards t k (tokenAt t k)) → Drops t k x
+      unfolding dropTokenCall foundToken heldGuards
       found s =
           let q : tokenAt t k .held ≡ true = rw (← held-is) (not-false (o .token .held) p) in
           passes _ _ _ (lt-leb _ _ h) (the-token t _ _ refl (kept q) s)
 
-      some-held : someAt t (tokenAt t k .kind) (tokenAt t k .name) 0 ≡ f
-      some-held = rw (← held-is) (some-told t 0 (o .token .name) k e (o .token .kind) 0 l ∙ sym g)
+      pub some-none : {b : Bool} {x : Reply} → someAt t (o .token .kind) (o .token .name) 0 ≡ b → b ≡ true →
+          x ≡ answered t (pos 106) → Drops t k x
+      unfolding heldGuards
+      some-none q v s = found (refuses t _ _ s (rw (← held-is) (q ∙ v)))
 
-      pub resumed : {x : Reply} → x ≡ answered t (pos 106) → f ≡ true → Drops t k x
-      unfolding countGuards
-      resumed s w = found (refuses t _ _ s (some-held ∙ w))
+      lets-go : {b : Bool} {x : Reply} → someAt t (o .token .kind) (o .token .name) 0 ≡ b → b ≡ false →
+          x ≡ answered (putToken (resumeTask t (o .token .kind) (o .token .name)) k (drop (o .token)))
+          (pos 0) →
+          Drops t k x
+      unfolding heldGuards dropToken
+      lets-go q v s = found (passes _ _ _ (rw (← held-is) (q ∙ v)) (accepts t (rw (← held-is) s)))
 
-      module _ {r : Change}
-          (s : r
-          ≡ defs.answered
-          (defs.withToken (withTask c (o .token .kind) 2 (resume (c .thread))) (drop (o .token)))
-          (pos 0)) where
-        put-back : defs.stored t r ≡ answered (dropToken t k (tokenAt t k .kind) (tokenAt t k .name)) (pos 0)
-        unfolding dropToken resumeTask
-        put-back =
-            rw (← held-is)
-            (task-stored t 0 (o .token .name) k e (o .token .kind) 2 refl resume one-resumes l h s)
+      module _ (z : o .token .kind ≡ 1) {f : Bool}
+          (g : f ≡ any (hasCount (o .token .name) 0) (t .threads)) where
+        one-none : someAt t (o .token .kind) (o .token .name) 0 ≡ f
+        one-none = some-of-process t (o .token .kind) (o .token .name) 0 z ∙ sym g
 
-        pub dropped : f ≡ false → Drops t k (defs.stored t r)
-        unfolding countGuards
-        dropped w = found (passes _ _ _ (some-held ∙ w) (accepts t put-back))
+        pub none-listed : {x : Reply} → x ≡ answered t (pos 106) → f ≡ true → Drops t k x
+        none-listed s v = some-none one-none v s
+
+        pub off-process : {r : Change} → f ≡ false →
+            r ≡ defs.answered (defs.withToken (defs.withEach c 2) (drop (o .token))) (pos 0) →
+            Drops t k (defs.stored t r)
+        unfolding resumeTask
+        off-process v s =
+            lets-go one-none v
+            (process-stored t 0 (o .token .name) k e h (o .token .kind) 2 refl resume (one-resumes _) z s)
+
+      module _ (z : o .token .kind ≢ 1) (l : o .token .name < 128) where
+        is-none : someAt t (o .token .kind) (o .token .name) 0 ≡ c .thread .suspends =? 0
+        is-none = some-of-thread t 0 (o .token .name) k e h (o .token .kind) z l 0
+
+        pub none-there : {x : Reply} → x ≡ answered t (pos 106) → c .thread .suspends ≡ 0 → Drops t k x
+        none-there s v = some-none is-none (eq-eqb _ _ v) s
+
+        pub off-thread : {r : Change} → c .thread .suspends ≢ 0 →
+            r ≡ defs.answered (defs.withToken (defs.withThread c (resume (c .thread))) (drop (o .token)))
+            (pos 0) →
+            Drops t k (defs.stored t r)
+        unfolding resumeTask
+        off-thread v s =
+            lets-go is-none (ne-eqb _ _ v)
+            (thread-stored t 0 (o .token .name) k e h (o .token .kind) z l resume s)

@@ -2,12 +2,11 @@
 ghost use Rattle.model.specs.ThreadCalls.{createTokenCall, dropTokenCall};
 ghost use mathlib.Core.Path.{_≡_};
 ghost use Rattle.change.specs.Change.{Comes};
-ghost use Rattle.token_changes.specs.TokenChanges.{taskMade, someCount, withTask};
+ghost use Rattle.token_changes.specs.TokenChanges.{taskMade};
 use change::Change;
 use change::unchanged;
 use error::Refusal;
 use lists::Each;
-use record_thread::Thread;
 use record_token::Kind;
 use record_token::SuspendToken;
 use records::tables::Tables;
@@ -26,26 +25,6 @@ fn task_made(c: Change, kind: u8) -> bool
         return q.made;
     }
     v.made
-}
-
-// Whether a thread concerned has this suspend count; v is the thread of that name.
-fn some_count(v: Thread, threads: [Thread; 128], kind: u8, name: u8, count: u16) -> bool
-    ensures { λ r. ⌜ r ≡ someCount v threads kind name count ⌝ }
-{
-    if kind == Kind::PROCESS {
-        return lists::some_count(threads, name, count);
-    }
-    v.suspends == count
-}
-
-// Each thread of the process changed, or the one thread, which becomes v.
-fn with_task(c: Change, kind: u8, each: u8, v: Thread) -> Change
-    ensures { λ r. ⌜ r ≡ withTask c kind each v ⌝ }
-{
-    if kind == Kind::PROCESS {
-        return c.with_each(each);
-    }
-    c.with_thread(v)
 }
 
 // 0d: `SuspendToken::create`. A job can't be suspended: the Rust panics.
@@ -72,14 +51,19 @@ pub fn create(t: Tables, new: u8, kind: u8, name: u8) -> Change
     if kind == Kind::JOB {
         return c.answered(Refusal::PANICS);
     }
+    let w = SuspendToken::new(kind, name);
+    if kind == Kind::PROCESS {
+        let threads = t.threads;
+        if lists::some_count(threads, name, 65535) {
+            return c.answered(Refusal::FULL);
+        }
+        return c.with_each(Each::SUSPEND).with_token(w).answered(0);
+    }
     let v = c.thread;
-    let threads = t.threads;
-    if some_count(v, threads, kind, name, 65535) {
+    if v.suspends == 65535 {
         return c.answered(Refusal::FULL);
     }
-    with_task(c, kind, Each::SUSPEND, v.suspend())
-        .with_token(SuspendToken::new(kind, name))
-        .answered(0)
+    c.with_thread(v.suspend()).with_token(w).answered(0)
 }
 
 // 0e: a token dropped.
@@ -95,15 +79,20 @@ pub fn drop(t: Tables, token: u8) -> Change
     if !k.held {
         return c.answered(Refusal::NOT_MADE);
     }
+    let w = k.drop();
+    if k.kind == Kind::PROCESS {
+        let threads = t.threads;
+        if lists::some_count(threads, k.name, 0) {
+            return c.answered(Refusal::PANICS);
+        }
+        return c.with_each(Each::RESUME).with_token(w).answered(0);
+    }
     if 128 <= k.name {
         return c;
     }
     let v = c.thread;
-    let threads = t.threads;
-    if some_count(v, threads, k.kind, k.name, 0) {
+    if v.suspends == 0 {
         return c.answered(Refusal::PANICS);
     }
-    with_task(c, k.kind, Each::RESUME, v.resume())
-        .with_token(k.drop())
-        .answered(0)
+    c.with_thread(v.resume()).with_token(w).answered(0)
 }

@@ -1,6 +1,7 @@
 use Rattle.change.proofs.Storing.{stays}
 use Rattle.token_changes.proofs.Laws.{bad-kind, past-tokens, past-tasks}
-use Rattle.token_changes.proofs.Laws.{not-made, used, no-suspend, full, created}
+use Rattle.token_changes.proofs.Laws.{not-made, used, no-suspend}
+use Rattle.token_changes.proofs.Laws.{full-process, over-process, full-thread, over-thread}
 use borrow.Author.Needs.{needs}
 use Rattle.token_changes.proofs.create.Statement.{statement}
 use Rattle.token_changes.proofs.create.Tie as tie
@@ -74,10 +75,13 @@ create-spec =
     (stays _ _ _ _ _ (u .unchanged .ensures) _ (c .answered6 .ensures)) (i .if6 .taken))
     (λ c κs. search needs)
     (λ c κs. search needs)
+    (λ c κs. search needs)
     (λ c w.
     let i = c .before in
     let v = i .before in
-    let z = v .before .before .before in
+    let y = v .before .before in
+    let n0 = y .before in
+    let z = n0 .before in
     let g = z .before in
     let f = g .before .before in
     let b = f .before in
@@ -86,23 +90,21 @@ create-spec =
     let l = m .before in
     let k = l .before in
     let u = k .before in
-    full _ _ _ _ (k .if1 .left) (l .if2 .left) (m .tasks-of .ensures) (n .if3 .left)
+    full-process _ _ _ _ (k .if1 .left) (l .if2 .left) (m .tasks-of .ensures) (n .if3 .left)
     (u .unchanged .ensures) (b .task-made .ensures) (f .if4 .left) (g .if5 .left) (z .if6 .left)
-    (v .some-count .ensures)
-    (stays _ _ _ _ _ (u .unchanged .ensures) _ (c .answered7 .ensures)) (i .if7 .taken))
-    (λ c κs. search needs)
-    (λ c κs. search needs)
+    (y .if7 .taken) (v .some-count .ensures)
+    (stays _ _ _ _ _ (u .unchanged .ensures) _ (c .answered7 .ensures)) (i .if8 .taken))
     (λ c κs. search needs)
     (λ c κs. search needs)
     (λ c κs. search needs)
     (λ c w.
     let k1 = c .before in
     let k2 = k1 .before in
-    let k3 = k2 .before in
-    let s = k3 .before in
-    let i = s .before in
+    let i = k2 .before in
     let v = i .before in
-    let z = v .before .before .before in
+    let y = v .before .before in
+    let n0 = y .before in
+    let z = n0 .before in
     let g = z .before in
     let f = g .before .before in
     let b = f .before in
@@ -113,10 +115,56 @@ create-spec =
     let u = k .before in
     let e = simp (
       k1 .with-token .ensures,
-      k2 .new .ensures,
-      k3 .with-task .ensures,
-      s .suspend .ensures,
+      k2 .with-each .ensures,
+      n0 .new .ensures,
     ) at (c .answered8 .ensures) in
-    created _ _ _ _ (k .if1 .left) (l .if2 .left) (m .tasks-of .ensures) (n .if3 .left)
+    over-process _ _ _ _ (k .if1 .left) (l .if2 .left) (m .tasks-of .ensures) (n .if3 .left)
     (u .unchanged .ensures) (b .task-made .ensures) (f .if4 .left) (g .if5 .left) (z .if6 .left)
-    (v .some-count .ensures) e (i .if7 .left)))
+    (y .if7 .taken) (v .some-count .ensures) (i .if8 .left) e)
+    (λ c κs. search needs)
+    (λ c w.
+    let i = c .before in
+    let y = i .before .before .before in
+    let n0 = y .before in
+    let z = n0 .before in
+    let g = z .before in
+    let f = g .before .before in
+    let b = f .before in
+    let n = b .before in
+    let m = n .before in
+    let l = m .before in
+    let k = l .before in
+    let u = k .before in
+    full-thread _ _ _ _ (k .if1 .left) (l .if2 .left) (m .tasks-of .ensures) (n .if3 .left)
+    (u .unchanged .ensures) (b .task-made .ensures) (f .if4 .left) (g .if5 .left) (z .if6 .left)
+    (y .if7 .left)
+    (stays _ _ _ _ _ (u .unchanged .ensures) _ (c .answered9 .ensures)) (i .if9 .taken))
+    (λ c κs. search needs)
+    (λ c κs. search needs)
+    (λ c κs. search needs)
+    (λ c κs. search needs)
+    (λ c w.
+    let k1 = c .before in
+    let k2 = k1 .before in
+    let s = k2 .before in
+    let i = s .before in
+    let y = i .before .before .before in
+    let n0 = y .before in
+    let z = n0 .before in
+    let g = z .before in
+    let f = g .before .before in
+    let b = f .before in
+    let n = b .before in
+    let m = n .before in
+    let l = m .before in
+    let k = l .before in
+    let u = k .before in
+    let e = simp (
+      k1 .with-token2 .ensures,
+      k2 .with-thread .ensures,
+      s .suspend .ensures,
+      n0 .new .ensures,
+    ) at (c .answered10 .ensures) in
+    over-thread _ _ _ _ (k .if1 .left) (l .if2 .left) (m .tasks-of .ensures) (n .if3 .left)
+    (u .unchanged .ensures) (b .task-made .ensures) (f .if4 .left) (g .if5 .left) (z .if6 .left)
+    (y .if7 .left) (i .if9 .left) e))

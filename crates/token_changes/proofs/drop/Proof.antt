@@ -1,5 +1,6 @@
 use Rattle.change.proofs.Storing.{left-open, stays}
-use Rattle.token_changes.proofs.Laws.{past-held, not-held, resumed, dropped}
+use Rattle.token_changes.proofs.Laws.{past-held, not-held, none-listed, off-process}
+use Rattle.token_changes.proofs.Laws.{none-there, off-thread}
 use borrow.Author.Needs.{needs}
 use Rattle.token_changes.proofs.drop.Statement.{statement}
 use Rattle.token_changes.proofs.drop.Tie as tie
@@ -22,22 +23,61 @@ drop-spec =
     let u = l .before in
     not-held _ _ (l .if1 .left) (u .before .before .unchanged .ensures)
     (stays _ _ _ _ _ (u .unchanged2 .ensures) _ (c .answered2 .ensures)) (i .if2 .taken))
-    (λ c w.
-    let u = c .before .before .before .before .before in
-    left-open _ _ _ _ _ (u .unchanged2 .ensures) w)
+    (λ c κs. search needs)
     (λ c κs. search needs)
     (λ c κs. search needs)
     (λ c w.
     let i = c .before in
     let v = i .before in
-    let m = v .before .before .before in
-    let p = m .before .before in
+    let y = v .before .before in
+    let k0 = y .before .before in
+    let p = k0 .before in
     let l = p .before .before in
     let u = l .before in
-    resumed _ _ (l .if1 .left) (u .before .before .unchanged .ensures) (p .if2 .left) (m .if3 .left)
-    (u .unchanged2 .ensures) (v .some-count .ensures)
+    none-listed _ _ (l .if1 .left) (u .before .before .unchanged .ensures) (p .if2 .left)
+    (u .unchanged2 .ensures)
+    (y .if3 .taken) (v .some-count .ensures)
     (stays _ _ _ _ _ (u .unchanged2 .ensures) _ (c .answered3 .ensures)) (i .if4 .taken))
     (λ c κs. search needs)
+    (λ c κs. search needs)
+    (λ c κs. search needs)
+    (λ c w.
+    let k1 = c .before in
+    let k2 = k1 .before in
+    let i = k2 .before in
+    let v = i .before in
+    let y = v .before .before in
+    let k0 = y .before .before in
+    let p = k0 .before in
+    let l = p .before .before in
+    let u = l .before in
+    let e = simp (
+      k1 .with-token .ensures,
+      k2 .with-each .ensures,
+      k0 .drop .ensures,
+    ) at (c .answered4 .ensures) in
+    off-process _ _ (l .if1 .left) (u .before .before .unchanged .ensures) (p .if2 .left)
+    (u .unchanged2 .ensures)
+    (y .if3 .taken) (v .some-count .ensures) (i .if4 .left) e)
+    (λ c w.
+    let k0 = c .before .before .before .before in
+    let p = k0 .before in
+    let l = p .before .before in
+    let u = l .before in
+    left-open _ _ _ _ _ (u .unchanged2 .ensures) w)
+    (λ c κs. search needs)
+    (λ c w.
+    let i = c .before in
+    let x = i .before .before .before in
+    let y = x .before .before in
+    let k0 = y .before .before in
+    let p = k0 .before in
+    let l = p .before .before in
+    let u = l .before in
+    none-there _ _ (l .if1 .left) (u .before .before .unchanged .ensures) (p .if2 .left)
+    (u .unchanged2 .ensures)
+    (y .if3 .left) (x .if5 .left)
+    (stays _ _ _ _ _ (u .unchanged2 .ensures) _ (c .answered5 .ensures)) (i .if6 .taken))
     (λ c κs. search needs)
     (λ c κs. search needs)
     (λ c κs. search needs)
@@ -45,19 +85,20 @@ drop-spec =
     (λ c w.
     let k1 = c .before in
     let k2 = k1 .before in
-    let k3 = k2 .before in
-    let s = k3 .before in
+    let s = k2 .before in
     let i = s .before in
-    let v = i .before in
-    let m = v .before .before .before in
-    let p = m .before .before in
+    let x = i .before .before .before in
+    let y = x .before .before in
+    let k0 = y .before .before in
+    let p = k0 .before in
     let l = p .before .before in
     let u = l .before in
     let e = simp (
-      k1 .with-token .ensures,
-      k2 .drop .ensures,
-      k3 .with-task .ensures,
+      k1 .with-token2 .ensures,
+      k2 .with-thread .ensures,
       s .resume .ensures,
-    ) at (c .answered4 .ensures) in
-    dropped _ _ (l .if1 .left) (u .before .before .unchanged .ensures) (p .if2 .left) (m .if3 .left)
-    (u .unchanged2 .ensures) (v .some-count .ensures) e (i .if4 .left)))
+      k0 .drop .ensures,
+    ) at (c .answered6 .ensures) in
+    off-thread _ _ (l .if1 .left) (u .before .before .unchanged .ensures) (p .if2 .left)
+    (u .unchanged2 .ensures)
+    (y .if3 .left) (x .if5 .left) (i .if6 .left) e))
