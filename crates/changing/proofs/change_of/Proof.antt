@@ -1,7 +1,8 @@
 use Rattle.laws.specs.Choice.{if_then_else_}
 use Rattle.model.specs.Step.{step}
 use Rattle.calls.specs.Calls.{callBy}
-use Rattle.changing.proofs.Arms.{at-code, left-open}
+use Rattle.change.proofs.Storing.{left-open}
+use Rattle.changing.proofs.Arms.{at-code}
 use borrow.Author.Needs.{needs}
 use Rattle.changing.proofs.change_of.Statement.{statement}
 use Rattle.changing.proofs.change_of.Tie as tie
