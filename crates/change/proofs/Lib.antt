@@ -1,2 +1,3 @@
 mod Reading
 pub mod Storing
+pub mod Found

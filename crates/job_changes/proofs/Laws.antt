@@ -1,5 +1,4 @@
 -- How a `return` of a call meets its definition, where the call changes one job or none.
---     left-open                nothing is said of a call that is left open
 --     past-job, .., creates    the ways of making a job: v is the job above, c is read at the new name
 --     kills                    a job that lists nothing, below one that lives on
 -- Assumes nothing.
@@ -12,7 +11,6 @@ use mathlib.Core.Bool.{Bool, true, false}
 use lib.IntN.{ℤ, pos}
 use lib.ListN.{getD}
 use lib.Seq.{set-set}
-use Rattle.laws.specs.Choice.{if_then_else_}
 use Rattle.laws.specs.Lists.{any}
 use Rattle.laws.proofs.Cases.{no-both, by}
 use Rattle.error.specs.Numbers.{BAD-STATE}
@@ -23,10 +21,9 @@ use Rattle.record_job.specs.declared.Job.{Job}
 use Rattle.record_job.specs.Job.{noJob, newJob, killed, terminated, childOf}
 use Rattle.record_process.specs.Process.{memberOf}
 use Rattle.records.specs.declared.tables.Tables.{Tables}
-use Rattle.records.specs.declared.tables.FoundJob.the-variants.{NoJob, OldJob}
 use Rattle.records.specs.declared.reply.Reply.{Reply}
 use Rattle.records.specs.Reply.{answered}
-use Rattle.records.specs.Tables.{jobAt, ownAt, inheritedAt, processAt, foundJob, putJob, withJobs}
+use Rattle.records.specs.Tables.{jobAt, ownAt, inheritedAt, processAt, putJob, withJobs}
 use Rattle.model.specs.Job.{listsChild, listsProcess, jobEmpty, mayTerminate, terminateUp, terminateJob}
 use Rattle.model.specs.Job.{killJob}
 use Rattle.model.specs.JobPolicy.{policyOf}
@@ -40,24 +37,10 @@ use Rattle.model.proofs.Upward.{up-orphan, up-stops, up-goes}
 use Rattle.change.specs.declared.Change.{Change}
 use Rattle.change.specs.Change as defs
 use Rattle.change.proofs.Storing as storing
+use Rattle.change.proofs.Found.{old-job, no-job}
 use Rattle.job_changes.specs.Below.{belowKilled}
 
--- ---- A call left open ------------------------------------------------------------------------
-
-pub left-open : {A : Type 0} (t : Tables) (j p n k : ℕ) {c : Change} →
-    c ≡ defs.unchanged t j p n k → c .whole ≡ true → A
-unfolding defs.unchanged
-left-open t j p n k e h = no-both h (ap (λ (x : Change). x .whole) e)
-
--- ---- A lookup --------------------------------------------------------------------------------
-
-old-job : (t : Tables) (j : ℕ) → jobAt t j .made ≡ true → foundJob t j ≡ OldJob (jobAt t j)
-unfolding foundJob if_then_else_
-old-job t j e = rw e
-
-no-job : (t : Tables) (j : ℕ) → jobAt t j .made ≡ false → foundJob t j ≡ NoJob
-unfolding foundJob if_then_else_
-no-job t j e = rw e
+-- ---- What was read of a job ------------------------------------------------------------------
 
 made-read : {v w : Job} {b : Bool} → v ≡ w → v .made ≡ b → w .made ≡ b
 made-read e h = ap (λ (u : Job). u .made) (sym e) ∙ h

@@ -1,22 +1,18 @@
 -- How a policy list's change meets its call: the entries gone through once, then the refusals in order. Assumes nothing.
 use Prim.Native.Nat.{ℕ, _%_, _≤_, _<_}
 use native.Mathlib.Omega.{arith}
-use mathlib.Core.Path.{_≡_, sym, ap, ap₂, _∙_}
+use mathlib.Core.Path.{_≡_, ap, ap₂, _∙_}
 use mathlib.Core.Bool.{Bool, true, false, not}
 use mathlib.Core.List.{List}
 use lib.IntN.{ℤ, pos}
-use Rattle.laws.specs.Choice.{_and_, if_then_else_}
-use Rattle.laws.specs.Lists.{any}
-use Rattle.laws.proofs.Cases.{no-both}
+use Rattle.laws.specs.Choice.{if_then_else_}
 use Rattle.error.specs.Numbers.{BAD-STATE, ALREADY-EXISTS}
 use Rattle.job_policy.specs.declared.BasicPolicy.{BasicPolicy}
 use Rattle.job_policy.specs.declared.JobPolicy.{JobPolicy}
-use Rattle.record_job.specs.declared.Job.{Job}
 use Rattle.records.specs.declared.tables.Tables.{Tables}
-use Rattle.records.specs.declared.tables.FoundJob.the-variants.{NoJob, OldJob}
 use Rattle.records.specs.declared.reply.Reply.{Reply}
 use Rattle.records.specs.Reply.{answered}
-use Rattle.records.specs.Tables.{jobAt, ownAt, inheritedAt, foundJob, putOwn}
+use Rattle.records.specs.Tables.{jobAt}
 use Rattle.model.specs.Job.{jobEmpty}
 use Rattle.model.specs.JobPolicy.{setting, policySet}
 use Rattle.model.specs.JobCalls.{setPolicyBasic}
@@ -27,15 +23,8 @@ use Rattle.policy_calls.proofs.Fold.{one-pass}
 use Rattle.change.specs.declared.Change.{Change}
 use Rattle.change.specs.Change as defs
 use Rattle.change.proofs.Storing as storing
+use Rattle.change.proofs.Found.{old-job, no-job}
 use Rattle.policy_changes.proofs.Laws.{emptyIn, empty-there}
-
-old-job : (t : Tables) (j : ℕ) → jobAt t j .made ≡ true → foundJob t j ≡ OldJob (jobAt t j)
-unfolding foundJob if_then_else_
-old-job t j e = rw e
-
-no-job : (t : Tables) (j : ℕ) → jobAt t j .made ≡ false → foundJob t j ≡ NoJob
-unfolding foundJob if_then_else_
-no-job t j e = rw e
 
 -- ---- The refusals, in order ------------------------------------------------------------------
 

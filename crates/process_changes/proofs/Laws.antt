@@ -1,5 +1,4 @@
 -- How a `return` of a call meets its definition, where the call changes one record or none.
---     left-open                nothing is said of a call that is left open
 --     creates                  a new process
 --     denies, binds            a binding to a job that is not above, and to one that is
 --     finishes                 a thread that is not the last of its process
@@ -30,13 +29,10 @@ use Rattle.record_process.specs.Process.{newProcess, isExited, isCritical, with
 use Rattle.record_thread.specs.declared.Thread.{Thread}
 use Rattle.record_thread.specs.Thread.{isFree, finish, threadOf}
 use Rattle.records.specs.declared.tables.Tables.{Tables}
-use Rattle.records.specs.declared.tables.FoundJob.the-variants.{OldJob}
-use Rattle.records.specs.declared.tables.FoundProcess.the-variants.{OldProcess}
-use Rattle.records.specs.declared.tables.FoundThread.the-variants.{OldThread}
 use Rattle.records.specs.declared.reply.Reply.{Reply}
 use Rattle.records.specs.Reply.{reply, answered}
-use Rattle.records.specs.Tables.{jobAt, processAt, threadAt, foundJob, foundProcess, foundThread, putProcess}
-use Rattle.records.specs.Tables.{putThread, withProcesses, withThreads}
+use Rattle.records.specs.Tables.{jobAt, processAt, threadAt, putProcess, putThread}
+use Rattle.records.specs.Tables.{withProcesses, withThreads}
 use Rattle.model.specs.Job.{atOrAbove, mayTerminate, listsThread, exitProcess, finishThread}
 use Rattle.model.specs.Job.{stopIn, stopThreads}
 use Rattle.model.specs.JobPolicy.{policyOf}
@@ -50,29 +46,8 @@ use Rattle.model.proofs.Upward.{unlist-stays, finish-rests}
 use Rattle.change.specs.declared.Change.{Change}
 use Rattle.change.specs.Change as defs
 use Rattle.change.proofs.Storing as storing
+use Rattle.change.proofs.Found.{old-job, old-process, old-thread}
 use Rattle.process_changes.specs.Above.{SaysAbove}
-
--- ---- A call left open ------------------------------------------------------------------------
-
-pub left-open : {A : Type 0} (t : Tables) (j p n k : ℕ) {c : Change} →
-    c ≡ defs.unchanged t j p n k → c .whole ≡ true → A
-unfolding defs.unchanged
-left-open t j p n k e h = no-both h (ap (λ (x : Change). x .whole) e)
-
--- ---- Records that are made -------------------------------------------------------------------
-
-old-job : (t : Tables) (j : ℕ) → jobAt t j .made ≡ true → foundJob t j ≡ OldJob (jobAt t j)
-unfolding foundJob if_then_else_
-old-job t j e = rw e
-
-old-process : (t : Tables) (p : ℕ) → processAt t p .made ≡ true →
-    foundProcess t p ≡ OldProcess (processAt t p)
-unfolding foundProcess if_then_else_
-old-process t p e = rw e
-
-old-thread : (t : Tables) (n : ℕ) → threadAt t n .made ≡ true → foundThread t n ≡ OldThread (threadAt t n)
-unfolding foundThread if_then_else_
-old-thread t n e = rw e
 
 -- ---- A new process ---------------------------------------------------------------------------
 

@@ -1,7 +1,8 @@
 use borrow.Author.Needs.{needs}
 use borrow.Author.Tests.{not-false}
 use Rattle.laws.proofs.Flow.{told}
-use Rattle.job_changes.proofs.Laws.{left-open, kills}
+use Rattle.change.proofs.Storing.{left-open}
+use Rattle.job_changes.proofs.Laws.{kills}
 use Rattle.job_changes.proofs.kill.Statement.{statement}
 use Rattle.job_changes.proofs.kill.Tie as tie
 

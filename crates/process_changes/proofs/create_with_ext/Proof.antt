@@ -1,6 +1,7 @@
 use borrow.Author.Needs.{needs}
 use borrow.Author.Tests.{not-false}
-use Rattle.process_changes.proofs.Laws.{left-open, creates}
+use Rattle.change.proofs.Storing.{left-open}
+use Rattle.process_changes.proofs.Laws.{creates}
 use Rattle.process_changes.proofs.create_with_ext.Statement.{statement}
 use Rattle.process_changes.proofs.create_with_ext.Tie as tie
 

@@ -5,7 +5,8 @@ use borrow.Author.Needs.{needs}
 use borrow.Author.Tests.{not-false}
 use Rattle.laws.proofs.Flow.{told}
 use Rattle.record_job.specs.declared.Job.{Job}
-use Rattle.process_changes.proofs.Laws.{left-open, stops, exits}
+use Rattle.change.proofs.Storing.{left-open}
+use Rattle.process_changes.proofs.Laws.{stops, exits}
 use Rattle.process_changes.proofs.exit.Statement.{statement}
 use Rattle.process_changes.proofs.exit.Tie as tie
 

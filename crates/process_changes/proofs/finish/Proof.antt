@@ -1,7 +1,8 @@
 use borrow.Author.Needs.{needs}
 use borrow.Author.Tests.{not-false}
 use Rattle.laws.proofs.Flow.{told}
-use Rattle.process_changes.proofs.Laws.{left-open, finishes}
+use Rattle.change.proofs.Storing.{left-open}
+use Rattle.process_changes.proofs.Laws.{finishes}
 use Rattle.process_changes.proofs.finish.Statement.{statement}
 use Rattle.process_changes.proofs.finish.Tie as tie
 

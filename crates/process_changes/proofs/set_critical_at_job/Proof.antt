@@ -1,7 +1,8 @@
 use borrow.Author.Needs.{needs}
 use borrow.Author.Tests.{not-true, not-false}
 use Rattle.laws.proofs.Flow.{told}
-use Rattle.process_changes.proofs.Laws.{left-open, denies, binds}
+use Rattle.change.proofs.Storing.{left-open}
+use Rattle.process_changes.proofs.Laws.{denies, binds}
 use Rattle.process_changes.proofs.set_critical_at_job.Statement.{statement}
 use Rattle.process_changes.proofs.set_critical_at_job.Tie as tie
 
