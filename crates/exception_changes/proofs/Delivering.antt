@@ -8,6 +8,7 @@ use native.Mathlib.Omega.{arith}
 use borrow.Author.Tests.{lt-leb, ne-eqb}
 use lib.Dec.{eqb}
 use lib.IntN.{ℤ, pos}
+use lib.ListN.{getD}
 use Rattle.laws.specs.Choice.{if_then_else_}
 use Rattle.laws.proofs.Cases.{no-both, by}
 use Rattle.laws.proofs.Flow.{passes, second, told-not}
@@ -18,6 +19,10 @@ use Rattle.record_exception.specs.declared.Place.the-variants.{SecondChance, Of
 use Rattle.record_exception.specs.declared.Place.the-variants.{Exiting}
 use Rattle.record_exception.specs.declared.Exception.{Exception}
 use Rattle.record_exception.specs.Exception.{levelOf, exceptionAt}
+use Rattle.record_job.specs.declared.Job.{Job}
+use Rattle.record_job.specs.Job.{noJob}
+use Rattle.record_process.specs.declared.Process.{Process}
+use Rattle.record_process.specs.Process.{noProcess}
 use Rattle.record_thread.specs.declared.Waiting.the-variants.{InException}
 use Rattle.record_thread.specs.declared.FoundException.{FoundException}
 use Rattle.record_thread.specs.declared.FoundException.the-variants.{Held}
@@ -41,7 +46,7 @@ use Rattle.exception.specs.Places.{jobPlace}
 use Rattle.on_raise.specs.OnRaise.{isOver}
 use Rattle.change.specs.declared.Change.{Change}
 use Rattle.change.specs.Change as defs
-use Rattle.change.proofs.Storing.{job-read, process-read, thread-read, stores-thread}
+use Rattle.change.proofs.Storing.{thread-read, stores-thread}
 use Rattle.exception_changes.specs.declared.Goes.{Goes}
 use Rattle.exception_changes.specs.declared.Goes.the-variants.{To, Nowhere, Passing, Up}
 use Rattle.exception_changes.specs.Goes.{Means, firstGoes, nextGoes, jobOf, goesUp}
@@ -115,25 +120,25 @@ granted : (b : Bool) → not b ≡ false → b ≡ true
 granted true e = refl
 granted false e = no-both refl e
 
--- o has the thread read, c its process too, and a job
-module _ (t : Tables) (j n : ℕ) {o : Change} (d : o ≡ defs.unchanged t 0 0 n 0) {c : Change}
-    (e : c ≡ defs.unchanged t j (o .thread .process) n 0) (h : n < 128) (i : o .thread .process < 64)
-    (m : not (o .thread .made) ≡ false) where
-  thread-is : o .thread ≡ threadAt t n
-  thread-is = thread-read t 0 0 n 0 d h
+-- c has the thread read, q is its process
+module _ (t : Tables) (n : ℕ) {c : Change} (e : c ≡ defs.unchanged t 0 0 n 0) (h : n < 128)
+    (m : not (c .thread .made) ≡ false) {q : Process}
+    (o : q ≡ getD (t .processes) (c .thread .process) noProcess) where
+  thread-is : c .thread ≡ threadAt t n
+  thread-is = thread-read t 0 0 n 0 e h
 
-  process-is : c .process ≡ processAt t (processOf t n)
-  process-is =
-      process-read t j (o .thread .process) n 0 e i ∙ ap (λ (v : Thread). processAt t (v .process)) thread-is
+  process-is : q ≡ processAt t (processOf t n)
+  unfolding processAt
+  process-is = o ∙ ap (λ (v : Thread). processAt t (v .process)) thread-is
 
-  found : foundThread t n ≡ OldThread (o .thread)
+  found : foundThread t n ≡ OldThread (c .thread)
   unfolding foundThread if_then_else_
-  found = rw (← thread-is, granted (o .thread .made) m)
+  found = rw (← thread-is, granted (c .thread .made) m)
 
   -- the exception raised, g what the thread and its process say of it
   module _ (kind : ℕ) {route : Route} (a : route ≡ routeOf kind) {b : Bool} (f : b ≡ isNoType route)
-      (l : b ≡ false) {x : Bool} (y : x ≡ isFree (o .thread)) (z : not x ≡ false) (k : kind ≢ 0x8108)
-      (w : o .thread .state ≢ 4) {g : Goes} (q : g ≡ firstGoes route (o .thread) (c .process)) where
+      (l : b ≡ false) {x : Bool} (y : x ≡ isFree (c .thread)) (z : not x ≡ false) (k : kind ≢ 0x8108)
+      (w : c .thread .state ≢ 4) {g : Goes} (i : g ≡ firstGoes route (c .thread) q) where
     raises : {r : Reply} → r ≡ delivered (firstHandler (routeOf kind) t n) n kind false →
         r ≡ raiseException t n kind
     unfolding raiseException raise
@@ -147,24 +152,24 @@ module _ (t : Tables) (j n : ℕ) {o : Change} (d : o ≡ defs.unchanged t 0 0 n
 
     means : Means t n (firstHandler (routeOf kind) t n) g
     means =
-        let s : g ≡ firstGoes (routeOf kind) (o .thread) (c .process) = rw (← a) q in
+        let s : g ≡ firstGoes (routeOf kind) (c .thread) q = rw (← a) i in
         subst (Means t n (firstHandler (routeOf kind) t n)) (sym s)
         (first-means t n thread-is process-is (routeOf kind))
 
     pub raised : {r : Change} → r ≡ delivers c g n kind false → r .whole ≡ true →
         defs.stored t r ≡ raiseException t n kind
-    raised s p = raises (comes-to t j (o .thread .process) n e h _ g kind false means s p)
+    raised s p = raises (comes-to t 0 0 n e h _ g kind false means s p)
 
-    pub raised-up : {r : Change} {u : Goes} (v : Bool) (i : ℕ) → g ≡ Up v i → u ≡ goesUp 32 v (t .jobs) i →
+    pub raised-up : {r : Change} {u : Goes} (v : Bool) (j : ℕ) → g ≡ Up v j → u ≡ goesUp 32 v (t .jobs) j →
         r ≡ delivers c u n kind false → r .whole ≡ true → defs.stored t r ≡ raiseException t n kind
-    raised-up v i up u s p =
-        raises (comes-to t j (o .thread .process) n e h _ (goesUp 32 v (t .jobs) i) kind false
-        (through t n _ g v i means up) (s ∙ ap (λ (x : Goes). delivers c x n kind false) u) p)
+    raised-up v j up u s p =
+        raises (comes-to t 0 0 n e h _ (goesUp 32 v (t .jobs) j) kind false
+        (through t n _ g v j means up) (s ∙ ap (λ (x : Goes). delivers c x n kind false) u) p)
 
-  -- the exception y closed, j the job of its place
-  module _ {x : FoundException} (y : Exception) (f : x ≡ exceptionOf (o .thread)) (l : x ≡ Held y) {b : Bool}
-      (a : b ≡ isOver y) (k : b ≡ false) (q : j ≡ jobOf (y .place)) (w : j < 32)
-      {g : Goes} (z : g ≡ nextGoes (y .place) y (c .job) (o .thread) (c .process)) where
+  -- the exception y closed, w the job of its place
+  module _ {x : FoundException} (y : Exception) (f : x ≡ exceptionOf (c .thread)) (l : x ≡ Held y) {b : Bool}
+      (a : b ≡ isOver y) (k : b ≡ false) {j : ℕ} (d : j ≡ jobOf (y .place)) {w : Job}
+      (i : w ≡ getD (t .jobs) j noJob) {g : Goes} (z : g ≡ nextGoes (y .place) y w (c .thread) q) where
     closes : {r : Reply} → r ≡ delivered (nextHandler (y .place) t n y) n (y .kind) (y .second) →
         r ≡ closeException t n
     unfolding closeException close
@@ -172,18 +177,21 @@ module _ (t : Tables) (j n : ℕ) {o : Change} (d : o ≡ defs.unchanged t 0 0 n
         passes _ _ _ (lt-leb _ _ h)
         (the-thread t _ _ refl found (the-exception t _ _ f l (accepts t (second _ _ (sym a ∙ k) s))))
 
+    job-is : w ≡ jobAt t (jobOf (y .place))
+    unfolding jobAt
+    job-is = i ∙ ap (jobAt t) d
+
     next : Means t n (nextHandler (y .place) t n y) g
     next =
         subst (Means t n (nextHandler (y .place) t n y)) (sym z)
-        (next-means t n thread-is process-is (y .place) y
-        (job-read t j (o .thread .process) n 0 e w ∙ ap (jobAt t) q))
+        (next-means t n thread-is process-is (y .place) y job-is)
 
     pub closed : {r : Change} → r ≡ delivers c g n (y .kind) (y .second) → r .whole ≡ true →
         defs.stored t r ≡ closeException t n
-    closed s p = closes (comes-to t j (o .thread .process) n e h _ g (y .kind) (y .second) next s p)
+    closed s p = closes (comes-to t 0 0 n e h _ g (y .kind) (y .second) next s p)
 
-    pub closed-up : {r : Change} {u : Goes} (v : Bool) (i : ℕ) → g ≡ Up v i → u ≡ goesUp 32 v (t .jobs) i →
+    pub closed-up : {r : Change} {u : Goes} (v : Bool) (j : ℕ) → g ≡ Up v j → u ≡ goesUp 32 v (t .jobs) j →
         r ≡ delivers c u n (y .kind) (y .second) → r .whole ≡ true → defs.stored t r ≡ closeException t n
-    closed-up v i up u s p =
-        closes (comes-to t j (o .thread .process) n e h _ (goesUp 32 v (t .jobs) i) (y .kind) (y .second)
-        (through t n _ g v i next up) (s ∙ ap (λ (x : Goes). delivers c x n (y .kind) (y .second)) u) p)
+    closed-up v j up u s p =
+        closes (comes-to t 0 0 n e h _ (goesUp 32 v (t .jobs) j) (y .kind) (y .second)
+        (through t n _ g v j next up) (s ∙ ap (λ (x : Goes). delivers c x n (y .kind) (y .second)) u) p)

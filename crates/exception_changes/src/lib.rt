@@ -15,6 +15,8 @@ use change::unchanged;
 use error::ZxError;
 use levels::is_no_type;
 use levels::route_of;
+use lists::job_in;
+use lists::process_in;
 use model::Route;
 use on_raise::is_over;
 use record_exception::Exception;
@@ -282,18 +284,13 @@ fn deliver(c: Change, goes: Goes, thread: u8, kind: u16, second: bool) -> Change
 pub fn raise(t: Tables, thread: u8, kind: u16) -> Change
     ensures { λ r. ⌜ Comes t (raiseException t thread kind) r ⌝ }
 {
-    let at = unchanged(t, 0, 0, thread, 0);
-    let v = at.thread;
-    let c = unchanged(t, 0, v.process, thread, 0);
-    let q = c.process;
+    let c = unchanged(t, 0, 0, thread, 0);
+    let v = c.thread;
     let route = route_of(kind);
     if is_no_type(route) {
         return c;
     }
     if 128 <= thread {
-        return c;
-    }
-    if 64 <= v.process {
         return c;
     }
     if !v.made {
@@ -308,6 +305,8 @@ pub fn raise(t: Tables, thread: u8, kind: u16) -> Change
     if v.state == ThreadState::DYING {
         return c;
     }
+    let processes = t.processes;
+    let q = process_in(processes, v.process);
     let goes = first_goes(route, v, q);
     let Goes::Up(debugger, job) = goes else {
         return deliver(c, goes, thread, kind, false);
@@ -320,23 +319,12 @@ pub fn raise(t: Tables, thread: u8, kind: u16) -> Change
 pub fn close(t: Tables, thread: u8) -> Change
     ensures { λ r. ⌜ Comes t (closeException t thread) r ⌝ }
 {
-    let at = unchanged(t, 0, 0, thread, 0);
-    let v = at.thread;
+    let c = unchanged(t, 0, 0, thread, 0);
+    let v = c.thread;
     let FoundException::Held(e) = v.exception() else {
-        return at;
+        return c;
     };
-    let place = e.place;
-    let j = job_of(place);
-    let c = unchanged(t, j, v.process, thread, 0);
-    let w = c.job;
-    let q = c.process;
     if 128 <= thread {
-        return c;
-    }
-    if 64 <= v.process {
-        return c;
-    }
-    if 32 <= j {
         return c;
     }
     if !v.made {
@@ -345,10 +333,14 @@ pub fn close(t: Tables, thread: u8) -> Change
     if is_over(e) {
         return c;
     }
+    let place = e.place;
+    let jobs = t.jobs;
+    let w = job_in(jobs, job_of(place));
+    let processes = t.processes;
+    let q = process_in(processes, v.process);
     let goes = next_goes(e, w, v, q);
     let Goes::Up(debugger, job) = goes else {
         return deliver(c, goes, thread, e.kind, e.second);
     };
-    let jobs = t.jobs;
     deliver(c, search_up(jobs, debugger, job), thread, e.kind, e.second)
 }
