@@ -5,14 +5,17 @@ use mathlib.Core.Path.{_≡_, refl, sym, ap, _∙_, subst}
 use mathlib.Core.Logic.{_≢_}
 use mathlib.Core.Bool.{Bool, true, false, not}
 use native.Mathlib.Omega.{arith}
-use borrow.Author.Tests.{lt-leb, ne-eqb}
+use borrow.Author.Tests.{lt-leb, ne-eqb, eq-eqb}
 use lib.Dec.{eqb}
 use lib.IntN.{ℤ, pos}
 use lib.ListN.{getD}
 use Rattle.laws.specs.Choice.{if_then_else_}
 use Rattle.laws.proofs.Cases.{no-both, by}
-use Rattle.laws.proofs.Flow.{passes, second, told-not}
-use Rattle.error.specs.Numbers.{NEXT}
+use Rattle.laws.proofs.Flow.{passes, first, second, told-not}
+use Rattle.error.specs.Numbers.{NEXT, STOP}
+use Rattle.record_exception.specs.declared.Level.{Level}
+use Rattle.record_exception.specs.declared.Level.the-variants.{Unbound, Bound, HungUp, Shut}
+use Rattle.record_exception.specs.Channel.{isBound, tried}
 use Rattle.record_exception.specs.declared.Place.{Place}
 use Rattle.record_exception.specs.declared.Place.the-variants.{Debugger, OwnThread, OwnProcess}
 use Rattle.record_exception.specs.declared.Place.the-variants.{SecondChance, OfJob, OfJobDebugger}
@@ -40,24 +43,26 @@ use Rattle.model.specs.declared.Route.{Route}
 use Rattle.model.specs.declared.Search.{Search}
 use Rattle.model.specs.Exception.{isSynth, isNoType, routeOf, processOf, ownerOf, noHandler, searchUp}
 use Rattle.model.specs.Exception.{firstHandler, nextHandler, unhandled, deliver, delivered, raise, close}
+use Rattle.model.specs.Exception.{levelAt, raiseExiting}
 use Rattle.model.specs.ExceptionCalls.{raiseException, closeException}
 use Rattle.model.proofs.Answering.{accepts, the-thread, the-exception}
 use Rattle.exception.specs.Places.{jobPlace}
 use Rattle.on_raise.specs.OnRaise.{isOver}
 use Rattle.change.specs.declared.Change.{Change}
 use Rattle.change.specs.Change as defs
-use Rattle.change.proofs.Storing.{thread-read, stores-thread}
+use Rattle.change.proofs.Storing.{left-open, thread-read, stores-thread}
 use Rattle.exception_changes.specs.declared.Goes.{Goes}
 use Rattle.exception_changes.specs.declared.Goes.the-variants.{To, Nowhere, Passing, Up}
 use Rattle.exception_changes.specs.Goes.{Means, firstGoes, nextGoes, jobOf, goesUp}
-use Rattle.exception_changes.specs.Goes.{ownerIn, waitsAt, endsNowhere, delivers}
-use Rattle.exception_changes.proofs.Meaning.{up-means, first-means, next-means}
+use Rattle.exception_changes.specs.Goes.{ownerIn, waitsAt, endsNowhere, delivers, isHungUp, exitsTo}
+use Rattle.exception_changes.proofs.Meaning.{up-means, first-means, next-means, passed, thread-back}
 
--- a return that leaves the call open says nothing of it
-pub nothing-said : {A : Type 0} {c : Change} (t : Tables) (j p n k : ℕ) →
-    c ≡ defs.unchanged t j p n k → c .whole ≡ true → A
-unfolding defs.unchanged
-nothing-said t j p n k e h = no-both h (ap (λ (x : Change). x .whole) e)
+-- only a hung-up level changes by being tried
+tried-same : (l : Level) → isHungUp l ≡ false → tried l ≡ l
+tried-same Unbound e = refl
+tried-same Bound e = refl
+tried-same HungUp e = no-both refl e
+tried-same Shut e = refl
 
 -- ---- The change ------------------------------------------------------------------------------
 
@@ -94,7 +99,7 @@ module _ (t : Tables) (j p n : ℕ) {c : Change} (e : c ≡ defs.unchanged t j p
   ending {r} kind b g w =
       by (isSynth kind)
       (λ y. stores endWait NEXT (OwnerField 0) (rw y at g) ∙ rw y)
-      (λ y. nothing-said t j p n 0 e (sym (ap (λ (x : Change). x .whole) (rw y at g)) ∙ w))
+      (λ y. left-open t j p n 0 e (sym (ap (λ (x : Change). x .whole) (rw y at g)) ∙ w))
 
   pub comes-to : (s : Search) (g : Goes) (kind : ℕ) (b : Bool) {r : Change} → Means t n s g →
       r ≡ delivers c g n kind b → r .whole ≡ true → defs.stored t r ≡ delivered s n kind b
@@ -104,8 +109,37 @@ module _ (t : Tables) (j p n : ℕ) {c : Change} (e : c ≡ defs.unchanged t j p
       go : (g : Goes) → Means t n s g → r ≡ delivers c g n kind b → defs.stored t r ≡ delivered s n kind b
       go (To q) m x = waiting q kind b x ∙ ap (λ (u : Search). delivered u n kind b) (sym m)
       go Nowhere m x = ending kind b x w ∙ ap (λ (u : Search). delivered u n kind b) (sym m)
-      go Passing m x = nothing-said t j p n 0 e (sym (ap (λ (u : Change). u .whole) x) ∙ w)
-      go (Up d i) m x = nothing-said t j p n 0 e (sym (ap (λ (u : Change). u .whole) x) ∙ w)
+      go Passing m x = left-open t j p n 0 e (sym (ap (λ (u : Change). u .whole) x) ∙ w)
+      go (Up d i) m x = left-open t j p n 0 e (sym (ap (λ (u : Change). u .whole) x) ∙ w)
+
+  -- nothing is stored but the answer
+  shows : {r : Change} (a : ℤ) (x : Fields) → r ≡ defs.shown c a x → defs.stored t r ≡ reply t a x
+  shows a x g = stores (λ v. v) a x g ∙ ap (λ (u : Tables). reply u a x) (thread-back t n)
+
+  -- ThreadExiting, l the level 1 of the thread's process
+  module _ {q : Process} (o : q ≡ processAt t (processOf t n)) where
+    level-is : q .level1 ≡ levelAt t n Exiting
+    unfolding levelAt
+    level-is = ap (λ (u : Process). u .level1) o
+
+    there : {b : Bool} → c .thread .killed ≡ b → threadAt t n .killed ≡ b
+    there d = ap (λ (v : Thread). v .killed) (sym (thread-read t j p n 0 e h)) ∙ d
+
+    pub exits : {r : Change} (kind : ℕ) → r ≡ exitsTo c q kind → r .whole ≡ true → defs.stored t r ≡ raiseExiting t n kind
+    unfolding exitsTo raiseExiting if_then_else_
+    exits {r} kind g w =
+        by (isHungUp (q .level1)) (λ y. left-open t j p n 0 e (sym (ap (λ (x : Change). x .whole) (rw y at g)) ∙ w)) (λ y.
+        by (not (isBound (q .level1)))
+        (λ z.
+        let k : tried (q .level1) ≡ q .level1 = tried-same (q .level1) y in
+        shows NEXT (OwnerField 0) (rw (y, z) at g)
+        ∙ rw (← level-is, z) (ap (λ (u : Tables). reply u NEXT (OwnerField 0)) (sym (passed t n Exiting (rw level-is at k)))))
+        (λ z.
+        by (c .thread .killed)
+        (λ d. shows STOP (OwnerField 0) ((rw (y, z) at g) ∙ sym (first _ _ d refl)) ∙ rw (← level-is, z) (first _ _ (there d) refl))
+        (λ d. stores (λ v. waits v (v .state) (InException (exceptionAt kind Exiting false))) (pos 1)
+        (OwnerField (c .thread .process)) ((rw (y, z) at g) ∙ sym (second _ _ d refl))
+        ∙ rw (← level-is, z) (second _ _ (there d) (rw (thread-read t j p n 0 e h))))))
 
 -- on over the jobs
 through : (t : Tables) (n : ℕ) (s : Search) (g : Goes) (d : Bool) (j : ℕ) → Means t n s g → g ≡ Up d j →
@@ -134,6 +168,18 @@ module _ (t : Tables) (n : ℕ) {c : Change} (e : c ≡ defs.unchanged t 0 0 n 0
   found : foundThread t n ≡ OldThread (c .thread)
   unfolding foundThread if_then_else_
   found = rw (← thread-is, granted (c .thread .made) m)
+
+  -- ThreadExiting raised
+  pub exiting : (kind : ℕ) {route : Route} (a : route ≡ routeOf kind) {b : Bool} (f : b ≡ isNoType route)
+      (l : b ≡ false) {x : Bool} (y : x ≡ isFree (c .thread)) (z : not x ≡ false) (k : kind ≡ 0x8108) {r : Change} →
+      r ≡ exitsTo c q kind → r .whole ≡ true → defs.stored t r ≡ raiseException t n kind
+  unfolding raiseException raise
+  exiting kind a f l y z k s p =
+      let typed : isNoType (routeOf kind) ≡ false = ap (λ (r : Route). isNoType r) (sym a) ∙ sym f ∙ l in
+      passes _ _ _ typed
+      (passes _ _ _ (lt-leb _ _ h)
+      (the-thread t _ _ refl found
+      (passes _ _ _ (told-not y z) (accepts t (first _ _ (eq-eqb _ _ k) (exits t 0 0 n e h process-is kind s p))))))
 
   -- the exception raised, g what the thread and its process say of it
   module _ (kind : ℕ) {route : Route} (a : route ≡ routeOf kind) {b : Bool} (f : b ≡ isNoType route)

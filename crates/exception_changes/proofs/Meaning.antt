@@ -60,7 +60,7 @@ module _ (t : Tables) (n : ℕ) where
   unfolding putProcess processAt
   process-back = ap (withProcesses t) (set-getD (t .processes) (processOf t n) noProcess)
 
-  thread-back : putThread t n (threadAt t n) ≡ t
+  pub thread-back : putThread t n (threadAt t n) ≡ t
   unfolding putThread threadAt
   thread-back = ap (withThreads t) (set-getD (t .threads) n noThread)
 
@@ -79,7 +79,7 @@ module _ (t : Tables) (n : ℕ) where
   put-back (OfJobDebugger j) = job-back j
   put-back Exiting = process-back
 
-  passed : (p : Place) → tried (levelAt t n p) ≡ levelAt t n p → passOver t n p ≡ t
+  pub passed : (p : Place) → tried (levelAt t n p) ≡ levelAt t n p → passOver t n p ≡ t
   unfolding passOver
   passed p e = ap (putLevelAt t n p) e ∙ put-back p
 

@@ -1,12 +1,12 @@
 -- Where an exception goes, worked out from records alone, and the change that delivers it.
 use Prim.Native.Nat.{ℕ, zero, suc}
 use mathlib.Core.Path.{_≡_}
-use mathlib.Core.Bool.{Bool, true, false}
+use mathlib.Core.Bool.{Bool, true, false, not}
 use mathlib.Core.List.{List}
 use lib.IntN.{pos}
 use lib.ListN.{getD}
 use Rattle.laws.specs.Choice.{_=?_, if_then_else_}
-use Rattle.error.specs.Numbers.{NEXT}
+use Rattle.error.specs.Numbers.{NEXT, STOP}
 use Rattle.record_exception.specs.declared.Level.{Level}
 use Rattle.record_exception.specs.declared.Level.the-variants.{Unbound, Bound, HungUp, Shut}
 use Rattle.record_exception.specs.declared.Place.{Place}
@@ -14,6 +14,7 @@ use Rattle.record_exception.specs.declared.Place.the-variants.{Debugger, OwnThr
 use Rattle.record_exception.specs.declared.Place.the-variants.{SecondChance, OfJob, OfJobDebugger}
 use Rattle.record_exception.specs.declared.Place.the-variants.{Exiting}
 use Rattle.record_exception.specs.declared.Exception.{Exception}
+use Rattle.record_exception.specs.Channel.{isBound}
 use Rattle.record_exception.specs.Exception.{levelOf, exceptionAt}
 use Rattle.record_job.specs.declared.Job.{Job}
 use Rattle.record_job.specs.Job.{noJob}
@@ -146,3 +147,13 @@ delivers c (To place) n kind second = waitsAt c place n kind second
 delivers c Nowhere n kind second = endsNowhere c kind
 delivers c Passing n kind second = c
 delivers c (Up debugger j) n kind second = c
+
+-- ThreadExiting goes to level 1 and leaves the state; a killed thread sends it and is stopped (M11). A hung-up level is left
+-- open
+unfoldable pub exitsTo : Change → Process → ℕ → Change
+exitsTo c q kind =
+    if isHungUp (q .level1) then c else
+    if not (isBound (q .level1)) then shown c NEXT (OwnerField 0) else
+    if c .thread .killed then shown c STOP (OwnerField 0) else
+    shown (withThread c (waits (c .thread) (c .thread .state) (InException (exceptionAt kind Exiting false))))
+    (pos 1) (OwnerField (c .thread .process))

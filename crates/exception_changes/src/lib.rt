@@ -6,7 +6,7 @@ ghost use Rattle.change.specs.Change.{Comes};
 ghost use Rattle.exception_changes.specs.Goes.{goesAt, fromSecond, fromProcess, fromThread};
 ghost use Rattle.exception_changes.specs.Goes.{fromDebugger, firstGoes, aboveGoes, afterDebugger};
 ghost use Rattle.exception_changes.specs.Goes.{nextGoes, jobOf, isHungUp, levelIn, goesUp};
-ghost use Rattle.exception_changes.specs.Goes.{ownerIn, waitsAt, endsNowhere, delivers};
+ghost use Rattle.exception_changes.specs.Goes.{ownerIn, waitsAt, endsNowhere, delivers, exitsTo};
 ghost use Rattle.exception_changes.specs.declared.Goes as Goes;
 ghost use Rattle.record_exception.specs.declared.Place as Place;
 ghost use Rattle.exception.specs.Places.{jobPlace};
@@ -278,6 +278,26 @@ fn deliver(c: Change, goes: Goes, thread: u8, kind: u16, second: bool) -> Change
     }
 }
 
+// ThreadExiting goes to level 1 and leaves the state; a killed thread sends it and is stopped.
+fn exits_to(c: Change, q: Process, kind: u16) -> Change
+    ensures { λ r. ⌜ r ≡ exitsTo c q kind ⌝ }
+{
+    let v = c.thread;
+    let level = q.level1;
+    if is_hung_up(level) {
+        return c;
+    }
+    if !level.is_bound() {
+        return c.shown(ZxError::NEXT, Fields::OwnerField(0));
+    }
+    if v.killed {
+        return c.shown(ZxError::STOP, Fields::OwnerField(0));
+    }
+    let e = Exception::at(kind, Place::Exiting, false);
+    let w = v.waits(v.state, Waiting::InException(e));
+    c.with_thread(w).shown(1, Fields::OwnerField(v.process))
+}
+
 // -- The calls -----------------------------------------------------------------------------
 
 // 14: `CurrentThread::handle_exception`.
@@ -300,7 +320,8 @@ pub fn raise(t: Tables, thread: u8, kind: u16) -> Change
         return c;
     }
     if kind == ExceptionType::THREAD_EXITING {
-        return c;
+        let processes = t.processes;
+        return exits_to(c, process_in(processes, v.process), kind);
     }
     if v.state == ThreadState::DYING {
         return c;

@@ -1,4 +1,5 @@
-use Rattle.exception_changes.proofs.Delivering.{nothing-said, closed, closed-up}
+use Rattle.change.proofs.Storing.{left-open}
+use Rattle.exception_changes.proofs.Delivering.{closed, closed-up}
 use borrow.Author.Needs.{needs}
 use Rattle.exception_changes.proofs.close.Statement.{statement}
 use Rattle.exception_changes.proofs.close.Tie as tie
@@ -11,15 +12,15 @@ close-spec =
     (λ c κs. search needs)
     (λ c. search needs)
     (λ c. search needs)
-    (λ c p. nothing-said _ _ _ _ _ (c .before .before .before .before .unchanged .ensures) p)
-    (λ c p. nothing-said _ _ _ _ _ (c .before .before .before .before .before .before .unchanged .ensures) p)
+    (λ c p. left-open _ _ _ _ _ (c .before .before .before .before .unchanged .ensures) p)
+    (λ c p. left-open _ _ _ _ _ (c .before .before .before .before .before .before .unchanged .ensures) p)
     (λ c p.
     let u = c .before .before .before .before .before .before in
-    nothing-said _ _ _ _ _ (u .before .before .unchanged .ensures) p)
+    left-open _ _ _ _ _ (u .before .before .unchanged .ensures) p)
     (λ c κs. search needs)
     (λ c p.
     let u = c .before .before .before .before .before .before in
-    nothing-said _ _ _ _ _ (u .before .before .before .before .unchanged .ensures) p)
+    left-open _ _ _ _ _ (u .before .before .before .before .unchanged .ensures) p)
     (λ c κs. search needs)
     (λ c κs. search needs)
     (λ c κs. search needs)
