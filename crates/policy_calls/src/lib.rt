@@ -177,5 +177,10 @@ pub fn set_policy_four(
 {
     let own = t.own_at(job);
     let inherited = t.inherited_at(job);
-    finish(t, job, option, four(own, inherited, option, count, policies))
+    finish(
+        t,
+        job,
+        option,
+        four(own, inherited, option, count, policies),
+    )
 }

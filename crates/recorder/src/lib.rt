@@ -114,7 +114,14 @@ pub fn feed(state: State, input: &[u8], out: &mut [u8]) -> Fed
                     let c = changing::change_of(t, command);
                     if c.whole {
                         let fields = c.fields;
-                        written = lines::put_line(out, written, number, c.answer, fields, JobPolicy::none());
+                        written = lines::put_line(
+                            out,
+                            written,
+                            number,
+                            c.answer,
+                            fields,
+                            JobPolicy::none(),
+                        );
                         let x = (c.j % 32) as usize;
                         let y = (c.p % 64) as usize;
                         let z = (c.n % 128) as usize;

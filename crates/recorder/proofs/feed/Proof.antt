@@ -224,8 +224,8 @@ loop-again-2 c =
           (
             p .put-line2 .kept .0 ∙ l .loop .inv .1 .1 .1 .0,
             rw (numbered-2 a .next-number2 .ensures)
-            (came a (withThreads (storingRecords (l .loop .t) (change-2 a)) (c .each-thread .result))
-            (stored-spread (l .loop .t) (change-2 a) (c .before .before .if4 .taken) (c .each-thread .ensures))),
+                (came a (withThreads (storingRecords (l .loop .t) (change-2 a)) (c .each-thread .result))
+                (stored-spread (l .loop .t) (change-2 a) (c .before .before .if4 .taken) (c .each-thread .ensures))),
           ),
         ),
       ),
@@ -247,8 +247,8 @@ loop-again-3 c =
           (
             p .put-line2 .kept .0 ∙ l .loop .inv .1 .1 .1 .0,
             rw (numbered-2 a .next-number2 .ensures)
-            (came a (storingRecords (l .loop .t) (change-2 a))
-            (stored-alone (l .loop .t) (change-2 a) (c .if4 .left))),
+                (came a (storingRecords (l .loop .t) (change-2 a))
+                (stored-alone (l .loop .t) (change-2 a) (c .if4 .left))),
           ),
         ),
       ),
