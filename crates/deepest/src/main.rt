@@ -1,4 +1,5 @@
 // deepest: the deepest cascade, for its stack. Writes how many jobs it killed.
+use reading::job_at;
 use record_exception::Exception;
 use record_exception::ExceptionType;
 use record_exception::Place;
@@ -54,7 +55,7 @@ fn main() {
     t = job::finish_thread(t, 0);
     let mut killed: u64 = 0;
     for k in 0..32u8 {
-        let v = t.job_at(k);
+        let v = job_at(t, k);
         if v.killed {
             killed += 1;
         }

@@ -10,6 +10,8 @@ use levels::process_of;
 use model::Handler;
 use model::Route;
 use model::Search;
+use reading::job_at;
+use reading::process_at;
 use record_exception::Exception;
 use record_exception::ExceptionType;
 use record_exception::Place;
@@ -40,7 +42,7 @@ pub fn search_up(mut t: Tables, thread: u8, job: u8, debugger: bool) -> Search
             };
         }
         t = pass_over(t, thread, place);
-        let v = t.job_at(at);
+        let v = job_at(t, at);
         let parent = v.parent;
         match parent {
             Parent::Orphan => {
@@ -64,7 +66,7 @@ pub fn search_up(mut t: Tables, thread: u8, job: u8, debugger: bool) -> Search
 fn own_job(t: Tables, thread: u8) -> u8
     ensures { λ r. ⌜ r ≡ ownJob t thread ⌝ }
 {
-    t.process_at(process_of(t, thread)).job
+    process_at(t, process_of(t, thread)).job
 }
 
 fn from_jobs(t: Tables, thread: u8) -> Search
@@ -164,7 +166,7 @@ pub fn first_handler(route: Route, t: Tables, thread: u8) -> Search
 fn above_job(t: Tables, thread: u8, job: u8) -> Search
     ensures { λ r. ⌜ r ≡ aboveJob t thread job ⌝ }
 {
-    let v = t.job_at(job);
+    let v = job_at(t, job);
     let parent = v.parent;
     match parent {
         Parent::Orphan => Search {

@@ -6,6 +6,7 @@ ghost use Rattle.model.specs.ExceptionCalls.{getProcessHandle};
 use error::Refusal;
 use levels::is_no_type;
 use levels::route_of;
+use reading::thread_at;
 use record_thread::FoundException;
 use records::reply::Reply;
 use records::tables::FoundThread;
@@ -21,7 +22,7 @@ pub fn handle_exception(t: Tables, thread: u8, kind: u16) -> Reply
     if 128 <= thread {
         return Reply::answered(t, Refusal::PAST_TABLE);
     }
-    let FoundThread::OldThread(v) = t.thread(thread) else {
+    let FoundThread::OldThread(v) = lookup::thread(t, thread) else {
         return Reply::answered(t, Refusal::NOT_MADE);
     };
     if !v.is_free() {
@@ -37,7 +38,7 @@ pub fn close(t: Tables, thread: u8) -> Reply
     if 128 <= thread {
         return Reply::answered(t, Refusal::PAST_TABLE);
     }
-    let FoundThread::OldThread(v) = t.thread(thread) else {
+    let FoundThread::OldThread(v) = lookup::thread(t, thread) else {
         return Reply::answered(t, Refusal::NOT_MADE);
     };
     let FoundException::Held(e) = v.exception() else {
@@ -50,7 +51,7 @@ pub fn close(t: Tables, thread: u8) -> Reply
 pub fn set_state(t: Tables, thread: u8, state: u32) -> Reply
     ensures { λ r. ⌜ r ≡ setState t thread state ⌝ }
 {
-    let v = t.thread_at(thread_move::slot(thread));
+    let v = thread_at(t, thread_move::slot(thread));
     thread_move::moved(t, thread, on_exception::set_state(thread, v, state))
 }
 
@@ -58,7 +59,7 @@ pub fn set_state(t: Tables, thread: u8, state: u32) -> Reply
 pub fn set_strategy(t: Tables, thread: u8, strategy: u32) -> Reply
     ensures { λ r. ⌜ r ≡ setStrategy t thread strategy ⌝ }
 {
-    let v = t.thread_at(thread_move::slot(thread));
+    let v = thread_at(t, thread_move::slot(thread));
     thread_move::moved(t, thread, on_exception::set_strategy(thread, v, strategy))
 }
 
@@ -66,6 +67,6 @@ pub fn set_strategy(t: Tables, thread: u8, strategy: u32) -> Reply
 pub fn get_process_handle(t: Tables, thread: u8) -> Reply
     ensures { λ r. ⌜ r ≡ getProcessHandle t thread ⌝ }
 {
-    let v = t.thread_at(thread_move::slot(thread));
+    let v = thread_at(t, thread_move::slot(thread));
     thread_move::moved(t, thread, on_exception::get_process_handle(thread, v))
 }

@@ -15,8 +15,6 @@ use change::unchanged;
 use error::ZxError;
 use levels::is_no_type;
 use levels::route_of;
-use lists::job_in;
-use lists::process_in;
 use model::Route;
 use on_raise::is_over;
 use record_exception::Exception;
@@ -32,6 +30,8 @@ use record_thread::ThreadState;
 use record_thread::Waiting;
 use records::reply::Fields;
 use records::tables::Tables;
+use rows::job_in;
+use rows::process_in;
 
 // Where an exception goes, as far as the records looked at say.
 enum Goes {

@@ -15,6 +15,7 @@ use levels::route_of;
 use model::Handler;
 use model::Search;
 use on_raise::is_over;
+use reading::thread_at;
 use record_exception::Exception;
 use record_exception::ExceptionType;
 use record_exception::Place;
@@ -29,7 +30,7 @@ use records::tables::Tables;
 fn over_tables(t: Tables, thread: u8) -> Tables
     ensures { λ r. ⌜ r ≡ overTables t thread ⌝ }
 {
-    t.with_thread(thread, t.thread_at(thread).end_wait())
+    t.with_thread(thread, thread_at(t, thread).end_wait())
 }
 
 // An answer with the owner field 0.
@@ -61,7 +62,7 @@ fn deliver(s: Search, thread: u8, kind: u16, second: bool) -> Reply
     };
     let owner = owner_of(t, thread, place);
     let e = Exception::at(kind, place, second);
-    let v = t.thread_at(thread);
+    let v = thread_at(t, thread);
     let w = v.waits(ThreadState::BLOCKED_EXCEPTION, Waiting::InException(e));
     Reply::with_fields(
         t.with_thread(thread, w),
@@ -92,7 +93,7 @@ fn raise_exiting(t: Tables, thread: u8, kind: u16) -> Reply
     if !level_at(t, thread, Place::Exiting).is_bound() {
         return outcome(pass_over(t, thread, Place::Exiting), ZxError::NEXT);
     }
-    let v = t.thread_at(thread);
+    let v = thread_at(t, thread);
     if v.killed {
         return outcome(t, ZxError::STOP);
     }
@@ -109,7 +110,7 @@ pub fn raise(t: Tables, thread: u8, kind: u16) -> Reply
     if kind == ExceptionType::THREAD_EXITING {
         return raise_exiting(t, thread, kind);
     }
-    if t.thread_at(thread).state == ThreadState::DYING {
+    if thread_at(t, thread).state == ThreadState::DYING {
         return outcome(t, ZxError::STOP);
     }
     deliver(

@@ -3,6 +3,9 @@
 ghost use mathlib.Core.Path.{_≡_};
 ghost use Rattle.model.specs.Job.{isLiveJob, isLiveProcess, killJob, exitProcess, endProcess};
 ghost use Rattle.model.specs.Job.{finishThread};
+use reading::job_at;
+use reading::process_at;
+use reading::thread_at;
 use record_job::Job;
 use record_process::Critical;
 use record_process::Process;
@@ -38,7 +41,7 @@ fn is_live_process(v: Process) -> bool
 pub fn kill_job(mut t: Tables, j: u8) -> Tables
     ensures { λ r. ⌜ r ≡ killJob t j ⌝ }
 {
-    let job = t.job_at(j);
+    let job = job_at(t, j);
     if !is_live_job(job) {
         return t;
     }
@@ -47,13 +50,13 @@ pub fn kill_job(mut t: Tables, j: u8) -> Tables
         return job_lists::terminate_job(t, j);
     }
     for c in 0..32u8 {
-        let child = t.job_at(c);
+        let child = job_at(t, c);
         if child.child_of(j) {
             t = kill_job(t, c);
         }
     }
     for p in 0..64u8 {
-        let process = t.process_at(p);
+        let process = process_at(t, p);
         if process.member_of(j) {
             t = exit_process(t, p, Process::KILL_CODE);
         }
@@ -65,7 +68,7 @@ pub fn kill_job(mut t: Tables, j: u8) -> Tables
 pub fn exit_process(mut t: Tables, p: u8, code: i64) -> Tables
     ensures { λ r. ⌜ r ≡ exitProcess t p code ⌝ }
 {
-    let process = t.process_at(p);
+    let process = process_at(t, p);
     if !is_live_process(process) {
         return t;
     }
@@ -80,7 +83,7 @@ pub fn exit_process(mut t: Tables, p: u8, code: i64) -> Tables
 pub fn end_process(mut t: Tables, p: u8) -> Tables
     ensures { λ r. ⌜ r ≡ endProcess t p ⌝ }
 {
-    let process = t.process_at(p);
+    let process = process_at(t, p);
     let status = process.status;
     let critical = process.critical;
     let code = status.code();
@@ -103,7 +106,7 @@ pub fn end_process(mut t: Tables, p: u8) -> Tables
 pub fn finish_thread(mut t: Tables, n: u8) -> Tables
     ensures { λ r. ⌜ r ≡ finishThread t n ⌝ }
 {
-    let thread = t.thread_at(n);
+    let thread = thread_at(t, n);
     t = t.with_thread(n, thread.finish());
     let process = thread.process;
     if scans::lists_thread(t, process) {

@@ -9,6 +9,9 @@ use job::kill_job;
 use job_lists::job_empty;
 use job_lists::policy_of;
 use job_policy::TimerSlackPolicy;
+use reading::inherited_at;
+use reading::job_at;
+use reading::own_at;
 use record_job::Job;
 use records::reply::Reply;
 use records::tables::FoundJob;
@@ -33,10 +36,10 @@ pub fn create_child(t: Tables, job: u8, new: u8) -> Reply
     if 32 <= new {
         return Reply::answered(t, Refusal::PAST_TABLE);
     }
-    let FoundJob::OldJob(v) = t.job(job) else {
+    let FoundJob::OldJob(v) = lookup::job(t, job) else {
         return Reply::answered(t, Refusal::NOT_MADE);
     };
-    if t.job_at(new).made {
+    if job_at(t, new).made {
         return Reply::answered(t, Refusal::USED);
     }
     if v.killed {
@@ -52,7 +55,7 @@ pub fn kill(t: Tables, job: u8) -> Reply
     if 32 <= job {
         return Reply::answered(t, Refusal::PAST_TABLE);
     }
-    let FoundJob::OldJob(v) = t.job(job) else {
+    let FoundJob::OldJob(v) = lookup::job(t, job) else {
         return Reply::answered(t, Refusal::NOT_MADE);
     };
     Reply::answered(kill_job(t, job), 0)
@@ -62,7 +65,7 @@ pub fn kill(t: Tables, job: u8) -> Reply
 pub fn set_policy_timer_slack(t: Tables, job: u8, policy: TimerSlackPolicy) -> Reply
     ensures { λ r. ⌜ r ≡ setPolicyTimerSlack t job policy ⌝ }
 {
-    let j = t.job_at(job_move::slot(job));
+    let j = job_at(t, job_move::slot(job));
     let empty = job_empty(t, job);
     job_move::moved(
         t,
@@ -76,8 +79,8 @@ pub fn get_info(t: Tables, job: u8) -> Reply
     ensures { λ r. ⌜ r ≡ jobInformation t job ⌝ }
 {
     let slot = job_move::slot(job);
-    let j = t.job_at(slot);
-    let own = t.own_at(slot);
-    let inherited = t.inherited_at(slot);
+    let j = job_at(t, slot);
+    let own = own_at(t, slot);
+    let inherited = inherited_at(t, slot);
     job_move::moved(t, job, on_job::get_info(job, j, own, inherited))
 }

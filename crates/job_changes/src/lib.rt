@@ -26,7 +26,7 @@ pub fn create_child(t: Tables, job: u8, new: u8) -> Change
     if 32 <= new {
         return c.answered(Refusal::PAST_TABLE);
     }
-    let v = lists::job_in(jobs, job);
+    let v = rows::job_in(jobs, job);
     if !v.made {
         return c.answered(Refusal::NOT_MADE);
     }
@@ -37,7 +37,7 @@ pub fn create_child(t: Tables, job: u8, new: u8) -> Change
     if v.killed {
         return c.answered(ZxError::BAD_STATE);
     }
-    let policy = lists::policy_in(own, job).merge(lists::policy_in(inherited, job));
+    let policy = rows::policy_in(own, job).merge(rows::policy_in(inherited, job));
     c.with_job(Job::new(job)).with_inherited(policy).answered(0)
 }
 
@@ -48,7 +48,7 @@ fn below_killed(jobs: [Job; 32], parent: Parent) -> bool
     let Parent::ChildOf(p) = parent else {
         return false;
     };
-    lists::job_in(jobs, p).killed
+    rows::job_in(jobs, p).killed
 }
 
 // 02: `Job::kill`, on a job that lists nothing and whose parent lives on: it terminates at once (M9).

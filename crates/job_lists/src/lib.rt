@@ -3,6 +3,10 @@ ghost use mathlib.Core.Path.{_≡_};
 ghost use Rattle.model.specs.Job.{jobEmpty, atOrAbove, mayTerminate, terminateJob, unlistProcess};
 ghost use Rattle.model.specs.JobPolicy.{policyOf};
 use job_policy::JobPolicy;
+use reading::inherited_at;
+use reading::job_at;
+use reading::own_at;
+use reading::process_at;
 use record_job::Parent;
 use records::tables::Tables;
 
@@ -26,7 +30,7 @@ pub fn at_or_above(t: Tables, j: u8, i: u8) -> bool
         if at == j {
             return true;
         }
-        let job = t.job_at(at);
+        let job = job_at(t, at);
         let parent = job.parent;
         let Parent::ChildOf(p) = parent else {
             return false;
@@ -40,7 +44,7 @@ pub fn at_or_above(t: Tables, j: u8, i: u8) -> bool
 pub fn may_terminate(t: Tables, j: u8) -> bool
     ensures { λ r. ⌜ r ≡ mayTerminate t j ⌝ }
 {
-    let job = t.job_at(j);
+    let job = job_at(t, j);
     if job.killed {
         return job_empty(t, j);
     }
@@ -51,8 +55,8 @@ pub fn may_terminate(t: Tables, j: u8) -> bool
 pub fn policy_of(t: Tables, j: u8) -> JobPolicy
     ensures { λ r. ⌜ r ≡ policyOf t j ⌝ }
 {
-    let own = t.own_at(j);
-    let inherited = t.inherited_at(j);
+    let own = own_at(t, j);
+    let inherited = inherited_at(t, j);
     own.merge(inherited)
 }
 
@@ -64,7 +68,7 @@ pub fn terminate_job(mut t: Tables, j: u8) -> Tables
 {
     let mut at = j;
     for step in 0..32u8 {
-        let job = t.job_at(at);
+        let job = job_at(t, at);
         t = t.with_job(at, job.terminated());
         let parent = job.parent;
         let Parent::ChildOf(p) = parent else {
@@ -82,7 +86,7 @@ pub fn terminate_job(mut t: Tables, j: u8) -> Tables
 pub fn unlist_process(mut t: Tables, p: u8) -> Tables
     ensures { λ r. ⌜ r ≡ unlistProcess t p ⌝ }
 {
-    let process = t.process_at(p);
+    let process = process_at(t, p);
     t = t.with_process(p, process.ended());
     let job = process.job;
     if may_terminate(t, job) {

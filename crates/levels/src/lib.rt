@@ -3,6 +3,9 @@ ghost use mathlib.Core.Path.{_≡_};
 ghost use Rattle.model.specs.Exception.{routeOf, isNoType, processOf, ownerOf, levelAt, passOver};
 ghost use Rattle.record_exception.specs.declared.Place as Place;
 use model::Route;
+use reading::job_at;
+use reading::process_at;
+use reading::thread_at;
 use record_exception::Level;
 use record_exception::Place;
 use records::tables::Tables;
@@ -44,7 +47,7 @@ pub fn is_no_type(route: Route) -> bool
 pub fn process_of(t: Tables, thread: u8) -> u8
     ensures { λ r. ⌜ r ≡ processOf t thread ⌝ }
 {
-    t.thread_at(thread).process
+    thread_at(t, thread).process
 }
 
 // The job, the process or the thread that has the level of a place.
@@ -66,7 +69,7 @@ pub fn owner_of(t: Tables, thread: u8, place: Place) -> u8
 fn level1_of(t: Tables, thread: u8) -> Level
     ensures { λ r. ⌜ r ≡ levelAt t thread Place.Debugger ⌝ }
 {
-    let q = t.process_at(process_of(t, thread));
+    let q = process_at(t, process_of(t, thread));
     q.level1
 }
 
@@ -74,28 +77,28 @@ fn level1_of(t: Tables, thread: u8) -> Level
 fn level3_of(t: Tables, thread: u8) -> Level
     ensures { λ r. ⌜ r ≡ levelAt t thread Place.OwnProcess ⌝ }
 {
-    let q = t.process_at(process_of(t, thread));
+    let q = process_at(t, process_of(t, thread));
     q.level3
 }
 
 fn level2_of(t: Tables, thread: u8) -> Level
     ensures { λ r. ⌜ r ≡ levelAt t thread Place.OwnThread ⌝ }
 {
-    let v = t.thread_at(thread);
+    let v = thread_at(t, thread);
     v.level2
 }
 
 fn level4_of(t: Tables, thread: u8, job: u8) -> Level
     ensures { λ r. ⌜ r ≡ levelAt t thread (Place.OfJob job) ⌝ }
 {
-    let v = t.job_at(job);
+    let v = job_at(t, job);
     v.level4
 }
 
 fn level5_of(t: Tables, thread: u8, job: u8) -> Level
     ensures { λ r. ⌜ r ≡ levelAt t thread (Place.OfJobDebugger job) ⌝ }
 {
-    let v = t.job_at(job);
+    let v = job_at(t, job);
     v.level5
 }
 

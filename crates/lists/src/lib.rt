@@ -1,74 +1,17 @@
-// lists: one table by itself: a record read or stored, and whether a job or a process lists something. A caller that has
-// all tables hands over the one that is looked at.
+// lists: one table by itself: whether a job or a process lists something, and a change of each thread that a process
+// lists. A caller that has all tables hands over the one that is looked at.
 ghost use mathlib.Core.Bool.{not};
 ghost use mathlib.Core.List.{map};
 ghost use mathlib.Core.Path.{_≡_};
-ghost use lib.ListN.{getD, set};
 ghost use Rattle.laws.specs.Choice.{_and_};
 ghost use Rattle.laws.specs.Lists.{any};
-ghost use Rattle.job_policy.specs.Policy.{noPolicy};
-ghost use Rattle.record_job.specs.Job.{noJob, childOf};
-ghost use Rattle.record_process.specs.Process.{noProcess, memberOf};
+ghost use Rattle.record_job.specs.Job.{childOf};
+ghost use Rattle.record_process.specs.Process.{memberOf};
 ghost use Rattle.record_thread.specs.Thread.{threadOf};
-ghost use Rattle.record_token.specs.SuspendToken.{noToken};
 ghost use Rattle.lists.specs.Each.{hasCount, oneOf, eachIn};
-use job_policy::JobPolicy;
 use record_job::Job;
 use record_process::Process;
 use record_thread::Thread;
-use record_token::SuspendToken;
-
-// -- A record ------------------------------------------------------------------------------
-
-pub fn job_in(jobs: [Job; 32], name: u8) -> Job
-    ensures { λ r. ⌜ r ≡ getD jobs name noJob ⌝ }
-{
-    let i = name as usize;
-    if 32 <= i {
-        return Job::none();
-    }
-    jobs[i]
-}
-
-pub fn policy_in(policies: [JobPolicy; 32], name: u8) -> JobPolicy
-    ensures { λ r. ⌜ r ≡ getD policies name noPolicy ⌝ }
-{
-    let i = name as usize;
-    if 32 <= i {
-        return JobPolicy::none();
-    }
-    policies[i]
-}
-
-pub fn process_in(processes: [Process; 64], name: u8) -> Process
-    ensures { λ r. ⌜ r ≡ getD processes name noProcess ⌝ }
-{
-    let i = name as usize;
-    if 64 <= i {
-        return Process::none();
-    }
-    processes[i]
-}
-
-pub fn token_in(tokens: [SuspendToken; 64], name: u8) -> SuspendToken
-    ensures { λ r. ⌜ r ≡ getD tokens name noToken ⌝ }
-{
-    let i = name as usize;
-    if 64 <= i {
-        return SuspendToken::none();
-    }
-    tokens[i]
-}
-
-pub fn with_thread(mut threads: [Thread; 128], name: u8, v: Thread) -> [Thread; 128]
-    ensures { λ r. ⌜ r ≡ set threads name v ⌝ }
-{
-    let i = name as usize;
-    if i < 128 {
-        threads[i] = v;
-    }
-    threads
-}
 
 // -- Lists ---------------------------------------------------------------------------------
 

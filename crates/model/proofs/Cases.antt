@@ -73,4 +73,8 @@ cases =
       code-kept = refl;
       second-late = refl;
       listed-late = refl;
+      own-threads = refl;
+      killed-code = refl;
+      unhandled-code = refl;
+      raised-once = refl;
     }

@@ -1,4 +1,4 @@
--- Document 01's cases M1 to M12, its listing and the blunders that it shuts out, as rows of one
+-- Document 01's cases M1 to M12, its listing, the blunders that it shuts out and a few more, as rows of one
 -- claim. A row is a list of calls from a fresh root, each with what it shows.
 use Prim.Native.Nat.{ℕ}
 use mathlib.Core.Path.{_≡_}
@@ -168,3 +168,18 @@ pub record Cases : Type 0 where
       cmd0f 1 0 [] ⇒ says (minus 20) ∷ cmd02 1 ⇒ yes0 ∷ cmd1b 1 ⇒ job true false none ∷
       cmd0c 0 ⇒ yes0 ∷
       cmd1b 1 ⇒ job true true none ∷ [])
+  -- an exit stops the process's own threads, and no other's
+  pub own-threads : Run (
+      cmd03 0 0 ⇒ yes0 ∷ cmd03 0 1 ⇒ yes0 ∷ cmd08 0 0 ⇒ yes0 ∷ cmd08 1 1 ⇒ yes0 ∷ cmd05 0
+      (pos 7) ⇒ yes0 ∷
+      cmd1d 0 ⇒ thread 4 0 0 ∷ cmd1d 1 ⇒ thread 0 0 0 ∷ [])
+  -- a kill, and an exception that nobody handles, stop the process with -1028
+  pub killed-code : Run (
+      cmd03 0 0 ⇒ yes0 ∷ cmd06 0 ⇒ yes0 ∷ cmd1c 0 ⇒ process (minus 1028) true true false true ∷ [])
+  pub unhandled-code : Run (
+      cmd03 0 0 ⇒ yes0 ∷ cmd08 0 0 ⇒ yes0 ∷ cmd09 0 ⇒ yes0 ∷ cmd14 0 8 ⇒ at (minus 61) 0 ∷
+      cmd1c 0 ⇒ process (minus 1028) true true false false ∷ [])
+  -- a thread whose exception a handler has raises none
+  pub raised-once : Run (
+      cmd03 0 0 ⇒ yes0 ∷ cmd08 0 0 ⇒ yes0 ∷ cmd09 0 ⇒ yes0 ∷ cmd12 2 0 ⇒ yes0 ∷
+      cmd14 0 8 ⇒ at (pos 2) 0 ∷ cmd14 0 8 ⇒ says (pos 105) ∷ [])

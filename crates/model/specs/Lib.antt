@@ -8,10 +8,5 @@ pub mod ThreadCalls
 pub mod ExceptionCalls
 pub mod Step
 pub mod Cases
-pub mod Reachable
 pub mod Refusals
 pub mod Answers
-pub mod StopsWhole
-pub mod Closings
-pub mod Separation
-pub mod SeparationRows

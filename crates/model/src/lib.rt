@@ -1,15 +1,10 @@
-// model: specs/ says what every call means, and what holds of all lists of calls. Here are the types that the
-// definitions of exceptions share with the code, and the one function that carries the claims.
+// model: specs/ says what every call means. Here are the types that the definitions of exceptions share with the code,
+// and the one function that carries the claims about single calls; those about lists of calls are in `claims`.
 ghost use mathlib.Core.Bool.{true};
 ghost use mathlib.Core.Path.{_≡_};
 ghost use Rattle.model.specs.Answers.{Answers};
 ghost use Rattle.model.specs.Cases.{Cases};
-ghost use Rattle.model.specs.Closings.{Closings};
-ghost use Rattle.model.specs.Reachable.{Reachable};
 ghost use Rattle.model.specs.Refusals.{Refusals};
-ghost use Rattle.model.specs.Separation.{Separation};
-ghost use Rattle.model.specs.SeparationRows.{SeparationRows};
-ghost use Rattle.model.specs.StopsWhole.{StopsWhole};
 use record_exception::Place;
 use records::tables::Tables;
 
@@ -35,9 +30,9 @@ pub struct Search {
     pub at: Handler,
 }
 
-// Carries the claims as its promise.
+// Carries the claims about single calls as its promise.
 pub fn claims() -> bool
-    ensures { λ r. ⌜ (r ≡ true) × Cases × Refusals × Answers × Reachable × StopsWhole × Closings × Separation × SeparationRows ⌝ }
+    ensures { λ r. ⌜ (r ≡ true) × Cases × Refusals × Answers ⌝ }
 {
     true
 }

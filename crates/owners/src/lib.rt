@@ -2,6 +2,9 @@
 ghost use mathlib.Core.Path.{_≡_};
 ghost use Rattle.owners.specs.Owners.{ownersOf, processLevel, jobLevel, foundLevel};
 ghost use Rattle.owners.specs.Owners.{putLevel, tasksOf, foundTask};
+use reading::job_at;
+use reading::process_at;
+use reading::thread_at;
 use record_exception::Level;
 use record_job::Job;
 use record_process::Process;
@@ -57,19 +60,19 @@ pub fn found_level(t: Tables, level: u8, name: u8) -> FoundLevel
     ensures { λ r. ⌜ r ≡ foundLevel t level name ⌝ }
 {
     if level == 2 {
-        let FoundThread::OldThread(v) = t.thread(name) else {
+        let FoundThread::OldThread(v) = lookup::thread(t, name) else {
             return FoundLevel::NoLevel;
         };
         let l = v.level2;
         return FoundLevel::OldLevel(l);
     }
     if level < 4 {
-        let FoundProcess::OldProcess(q) = t.process(name) else {
+        let FoundProcess::OldProcess(q) = lookup::process(t, name) else {
             return FoundLevel::NoLevel;
         };
         return FoundLevel::OldLevel(process_level(q, level));
     }
-    let FoundJob::OldJob(v) = t.job(name) else {
+    let FoundJob::OldJob(v) = lookup::job(t, name) else {
         return FoundLevel::NoLevel;
     };
     FoundLevel::OldLevel(job_level(v, level))
@@ -80,18 +83,18 @@ pub fn with_level(t: Tables, level: u8, name: u8, l: Level) -> Tables
     ensures { λ r. ⌜ r ≡ putLevel t level name l ⌝ }
 {
     if level == 1 {
-        return t.with_process(name, t.process_at(name).with_level1(l));
+        return t.with_process(name, process_at(t, name).with_level1(l));
     }
     if level == 2 {
-        return t.with_thread(name, t.thread_at(name).with_level2(l));
+        return t.with_thread(name, thread_at(t, name).with_level2(l));
     }
     if level == 3 {
-        return t.with_process(name, t.process_at(name).with_level3(l));
+        return t.with_process(name, process_at(t, name).with_level3(l));
     }
     if level == 4 {
-        return t.with_job(name, t.job_at(name).with_level4(l));
+        return t.with_job(name, job_at(t, name).with_level4(l));
     }
-    t.with_job(name, t.job_at(name).with_level5(l))
+    t.with_job(name, job_at(t, name).with_level5(l))
 }
 
 // -- Tasks: kind 0 is a job, 1 a process, 2 a thread --------------------------------------------
@@ -119,18 +122,18 @@ pub fn found_task(t: Tables, kind: u8, name: u8) -> FoundTask
     ensures { λ r. ⌜ r ≡ foundTask t kind name ⌝ }
 {
     if kind == 0 {
-        let FoundJob::OldJob(_) = t.job(name) else {
+        let FoundJob::OldJob(_) = lookup::job(t, name) else {
             return FoundTask::NoTask;
         };
         return FoundTask::OldTask;
     }
     if kind == 1 {
-        let FoundProcess::OldProcess(_) = t.process(name) else {
+        let FoundProcess::OldProcess(_) = lookup::process(t, name) else {
             return FoundTask::NoTask;
         };
         return FoundTask::OldTask;
     }
-    let FoundThread::OldThread(_) = t.thread(name) else {
+    let FoundThread::OldThread(_) = lookup::thread(t, name) else {
         return FoundTask::NoTask;
     };
     FoundTask::OldTask

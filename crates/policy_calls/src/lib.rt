@@ -14,6 +14,8 @@ use job_policy::BasicPolicy;
 use job_policy::JobPolicy;
 use job_policy::PolicyAction;
 use job_policy::PolicyCondition;
+use reading::inherited_at;
+use reading::own_at;
 use records::reply::Reply;
 use records::tables::FoundJob;
 use records::tables::Tables;
@@ -46,8 +48,8 @@ fn begin(t: Tables, job: u8, option: u8) -> Work
     ensures { λ r. ⌜ r ≡ beginWork t job option ⌝ }
 {
     Work {
-        own: t.own_at(job),
-        inherited: t.inherited_at(job),
+        own: own_at(t, job),
+        inherited: inherited_at(t, job),
         option: option,
         bad: false,
         refused: false,
@@ -141,7 +143,7 @@ fn finish(t: Tables, job: u8, option: u8, w: Work) -> Reply
     if 32 <= job {
         return Reply::answered(t, Refusal::PAST_TABLE);
     }
-    let FoundJob::OldJob(v) = t.job(job) else {
+    let FoundJob::OldJob(v) = lookup::job(t, job) else {
         return Reply::answered(t, Refusal::NOT_MADE);
     };
     if !job_lists::job_empty(t, job) {
@@ -175,8 +177,8 @@ pub fn set_policy_four(
 ) -> Reply
     ensures { λ r. ⌜ r ≡ setPolicyBasic t job option (take count policies) ⌝ }
 {
-    let own = t.own_at(job);
-    let inherited = t.inherited_at(job);
+    let own = own_at(t, job);
+    let inherited = inherited_at(t, job);
     finish(
         t,
         job,

@@ -9,6 +9,7 @@ use error::ZxError;
 use job::exit_process;
 use job::finish_thread;
 use job_lists::policy_of;
+use reading::process_at;
 use record_process::Process;
 use records::reply::Reply;
 use records::tables::FoundJob;
@@ -35,10 +36,10 @@ pub fn create_with_ext(t: Tables, job: u8, new: u8) -> Reply
     if 64 <= new {
         return Reply::answered(t, Refusal::PAST_TABLE);
     }
-    let FoundJob::OldJob(v) = t.job(job) else {
+    let FoundJob::OldJob(v) = lookup::job(t, job) else {
         return Reply::answered(t, Refusal::NOT_MADE);
     };
-    if t.process_at(new).made {
+    if process_at(t, new).made {
         return Reply::answered(t, Refusal::USED);
     }
     if v.killed {
@@ -54,7 +55,7 @@ pub fn exit(t: Tables, process: u8, code: i64) -> Reply
     if 64 <= process {
         return Reply::answered(t, Refusal::PAST_TABLE);
     }
-    let FoundProcess::OldProcess(q) = t.process(process) else {
+    let FoundProcess::OldProcess(q) = lookup::process(t, process) else {
         return Reply::answered(t, Refusal::NOT_MADE);
     };
     Reply::answered(exit_process(t, process, code), 0)
@@ -67,7 +68,7 @@ pub fn kill(t: Tables, process: u8) -> Reply
     if 64 <= process {
         return Reply::answered(t, Refusal::PAST_TABLE);
     }
-    let FoundProcess::OldProcess(q) = t.process(process) else {
+    let FoundProcess::OldProcess(q) = lookup::process(t, process) else {
         return Reply::answered(t, Refusal::NOT_MADE);
     };
     Reply::answered(exit_process(t, process, Process::KILL_CODE), 0)
@@ -80,7 +81,7 @@ pub fn finish(t: Tables, thread: u8) -> Reply
     if 128 <= thread {
         return Reply::answered(t, Refusal::PAST_TABLE);
     }
-    let FoundThread::OldThread(v) = t.thread(thread) else {
+    let FoundThread::OldThread(v) = lookup::thread(t, thread) else {
         return Reply::answered(t, Refusal::NOT_MADE);
     };
     if !v.is_free() {

@@ -72,7 +72,7 @@ pub fn exit(t: Tables, process: u8, code: i64) -> Change
     if critical.is_bound() {
         return c;
     }
-    if lists::job_in(jobs, q.job).killed {
+    if rows::job_in(jobs, q.job).killed {
         return c;
     }
     c.with_process(exited.ended()).answered(0)
@@ -87,7 +87,7 @@ fn at_or_above(jobs: [Job; 32], j: u8, i: u8) -> bool
         if at == j {
             return true;
         }
-        let job = lists::job_in(jobs, at);
+        let job = rows::job_in(jobs, at);
         let parent = job.parent;
         let Parent::ChildOf(p) = parent else {
             return false;
@@ -147,7 +147,7 @@ pub fn finish(t: Tables, thread: u8) -> Change
         return c;
     }
     let w = v.finish();
-    let left = lists::with_thread(threads, thread, w);
+    let left = rows::with_thread(threads, thread, w);
     if !lists::lists_thread(left, v.process) {
         return c;
     }

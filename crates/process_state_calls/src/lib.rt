@@ -7,6 +7,9 @@ ghost use Rattle.model.specs.JobCalls.{processInformation};
 use error::Refusal;
 use error::ZxError;
 use job_lists::at_or_above;
+use reading::fixed_at;
+use reading::process_at;
+use reading::thread_at;
 use records::reply::Reply;
 use records::tables::FoundJob;
 use records::tables::FoundProcess;
@@ -16,8 +19,8 @@ use records::tables::Tables;
 pub fn start(t: Tables, process: u8, thread: u8) -> Reply
     ensures { λ r. ⌜ r ≡ startProcess t process thread ⌝ }
 {
-    let q = t.process_at(process_move::slot(process));
-    let v = t.thread_at(thread % 128);
+    let q = process_at(t, process_move::slot(process));
+    let v = thread_at(t, thread % 128);
     on_pair::both_moved(t, process, thread, on_pair::start(process, thread, q, v))
 }
 
@@ -34,10 +37,10 @@ pub fn set_critical_at_job(t: Tables, process: u8, job: u8, flag: u8) -> Reply
     if 32 <= job {
         return Reply::answered(t, Refusal::PAST_TABLE);
     }
-    let FoundProcess::OldProcess(q) = t.process(process) else {
+    let FoundProcess::OldProcess(q) = lookup::process(t, process) else {
         return Reply::answered(t, Refusal::NOT_MADE);
     };
-    let FoundJob::OldJob(v) = t.job(job) else {
+    let FoundJob::OldJob(v) = lookup::job(t, job) else {
         return Reply::answered(t, Refusal::NOT_MADE);
     };
     let critical = q.critical;
@@ -55,8 +58,8 @@ pub fn check_policy(t: Tables, process: u8, condition: u8) -> Reply
     ensures { λ r. ⌜ r ≡ checkPolicy t process condition ⌝ }
 {
     let slot = process_move::slot(process);
-    let q = t.process_at(slot);
-    let fixed = t.fixed_at(slot);
+    let q = process_at(t, slot);
+    let fixed = fixed_at(t, slot);
     process_move::moved(
         t,
         process,
@@ -68,6 +71,6 @@ pub fn check_policy(t: Tables, process: u8, condition: u8) -> Reply
 pub fn get_info(t: Tables, process: u8) -> Reply
     ensures { λ r. ⌜ r ≡ processInformation t process ⌝ }
 {
-    let q = t.process_at(process_move::slot(process));
+    let q = process_at(t, process_move::slot(process));
     process_move::moved(t, process, on_process::get_info(process, q))
 }

@@ -16,7 +16,7 @@ use Rattle.records.specs.Tables.{putJob, putOwn, putInherited, putProcess, putF
 use Rattle.records.specs.Reply.{reply}
 use Rattle.records.specs.Tables.{putToken, withThreads}
 use Rattle.records.specs.Tables.{jobAt, processAt, threadAt, ownAt, inheritedAt, fixedAt}
-use Rattle.model.specs.Reachable.{Sized}
+use Rattle.records.specs.Tables.{Sized}
 use Rattle.change.specs.declared.Change.{Change}
 use Rattle.change.specs.Change as defs
 use Rattle.deciding.specs.declared.Slots.{Slots}

@@ -1,8 +1,9 @@
 -- The tables: a list of records for each kind of name. Reading past a table gives an unmade
 -- record, writing past it nothing.
 use Prim.Native.Nat.{ℕ}
+use mathlib.Core.Path.{_≡_}
 use mathlib.Core.List.{List}
-use lib.ListN.{getD, set, replicate}
+use lib.ListN.{getD, set, replicate, length}
 use Rattle.laws.specs.Choice.{if_then_else_}
 use Rattle.job_policy.specs.Policy.{noPolicy, merge}
 use Rattle.job_policy.specs.declared.JobPolicy.{JobPolicy}
@@ -36,6 +37,16 @@ freshTables =
       threads = replicate 128 noThread;
       tokens = replicate 64 noToken;
     }
+
+-- the tables have their sizes
+pub record Sized (t : Tables) : Type 0 where
+  pub jobs : length (t .jobs) ≡ 32
+  pub own : length (t .own) ≡ 32
+  pub inherited : length (t .inherited) ≡ 32
+  pub processes : length (t .processes) ≡ 64
+  pub fixed : length (t .fixed) ≡ 64
+  pub threads : length (t .threads) ≡ 128
+  pub tokens : length (t .tokens) ≡ 64
 
 -- ---- Reading -------------------------------------------------------------------------------
 

@@ -1,10 +1,7 @@
 // tables.rt: the records of all names. Policies stand beside their jobs and processes, since no lookup can hold an array.
 ghost use mathlib.Core.Path.{_≡_};
-ghost use Rattle.records.specs.Tables.{freshTables, jobAt, processAt, threadAt, tokenAt};
-ghost use Rattle.records.specs.Tables.{ownAt, inheritedAt, fixedAt, foundJob, foundProcess};
-ghost use Rattle.records.specs.Tables.{foundThread, foundToken, putJob, putOwn};
-ghost use Rattle.records.specs.Tables.{putInherited, putProcess, putFixed, putThread};
-ghost use Rattle.records.specs.Tables.{putToken};
+ghost use Rattle.records.specs.Tables.{freshTables, putJob, putOwn, putInherited, putProcess};
+ghost use Rattle.records.specs.Tables.{putFixed, putThread, putToken};
 use job_policy::JobPolicy;
 use record_job::Job;
 use record_process::Process;
@@ -43,126 +40,6 @@ pub enum FoundThread {
 pub enum FoundToken {
     NoToken,
     OldToken(SuspendToken),
-}
-
-impl Tables {
-    // A made job.
-    pub fn job(self, name: u8) -> FoundJob
-        ensures { λ r. ⌜ r ≡ foundJob self name ⌝ }
-    {
-        let v = self.job_at(name);
-        if v.made {
-            return FoundJob::OldJob(v);
-        }
-        FoundJob::NoJob
-    }
-
-    // A made process.
-    pub fn process(self, name: u8) -> FoundProcess
-        ensures { λ r. ⌜ r ≡ foundProcess self name ⌝ }
-    {
-        let v = self.process_at(name);
-        if v.made {
-            return FoundProcess::OldProcess(v);
-        }
-        FoundProcess::NoProcess
-    }
-
-    // A made thread.
-    pub fn thread(self, name: u8) -> FoundThread
-        ensures { λ r. ⌜ r ≡ foundThread self name ⌝ }
-    {
-        let v = self.thread_at(name);
-        if v.made {
-            return FoundThread::OldThread(v);
-        }
-        FoundThread::NoThread
-    }
-
-    // A token that still holds its task: a dropped one is not found.
-    pub fn token(self, name: u8) -> FoundToken
-        ensures { λ r. ⌜ r ≡ foundToken self name ⌝ }
-    {
-        let v = self.token_at(name);
-        if v.held {
-            return FoundToken::OldToken(v);
-        }
-        FoundToken::NoToken
-    }
-}
-
-// -- Reading -------------------------------------------------------------------------------
-
-impl Tables {
-    pub fn job_at(self, name: u8) -> Job
-        ensures { λ r. ⌜ r ≡ jobAt self name ⌝ }
-    {
-        let i = name as usize;
-        if 32 <= i {
-            return Job::none();
-        }
-        self.jobs[i]
-    }
-
-    pub fn process_at(self, name: u8) -> Process
-        ensures { λ r. ⌜ r ≡ processAt self name ⌝ }
-    {
-        let i = name as usize;
-        if 64 <= i {
-            return Process::none();
-        }
-        self.processes[i]
-    }
-
-    pub fn thread_at(self, name: u8) -> Thread
-        ensures { λ r. ⌜ r ≡ threadAt self name ⌝ }
-    {
-        let i = name as usize;
-        if 128 <= i {
-            return Thread::none();
-        }
-        self.threads[i]
-    }
-
-    pub fn token_at(self, name: u8) -> SuspendToken
-        ensures { λ r. ⌜ r ≡ tokenAt self name ⌝ }
-    {
-        let i = name as usize;
-        if 64 <= i {
-            return SuspendToken::none();
-        }
-        self.tokens[i]
-    }
-
-    pub fn own_at(self, name: u8) -> JobPolicy
-        ensures { λ r. ⌜ r ≡ ownAt self name ⌝ }
-    {
-        let i = name as usize;
-        if 32 <= i {
-            return JobPolicy::none();
-        }
-        self.own[i]
-    }
-
-    pub fn inherited_at(self, name: u8) -> JobPolicy
-        ensures { λ r. ⌜ r ≡ inheritedAt self name ⌝ }
-    {
-        let i = name as usize;
-        if 32 <= i {
-            return JobPolicy::none();
-        }
-        self.inherited[i]
-    }
-
-    pub fn fixed_at(self, name: u8) -> JobPolicy
-        ensures { λ r. ⌜ r ≡ fixedAt self name ⌝ }
-    {
-        let i = name as usize;
-        if 64 <= i {
-            return JobPolicy::none();
-        }
-        self.fixed[i]
-    }
 }
 
 // -- Storing -------------------------------------------------------------------------------

@@ -4,6 +4,7 @@ ghost use mathlib.Core.Path.{_≡_};
 ghost use Rattle.model.specs.ThreadCalls.{createTokenCall, dropTokenCall, suspendCall, resumeCall};
 use error::Refusal;
 use owners::FoundTask;
+use reading::token_at;
 use record_token::Kind;
 use records::reply::Reply;
 use records::tables::FoundToken;
@@ -30,7 +31,7 @@ pub fn create(t: Tables, new: u8, kind: u8, name: u8) -> Reply
     let FoundTask::OldTask = owners::found_task(t, kind, name) else {
         return Reply::answered(t, Refusal::NOT_MADE);
     };
-    if t.token_at(new).made {
+    if token_at(t, new).made {
         return Reply::answered(t, Refusal::USED);
     }
     if kind == Kind::JOB {
@@ -49,7 +50,7 @@ pub fn drop(t: Tables, token: u8) -> Reply
     if 64 <= token {
         return Reply::answered(t, Refusal::PAST_TABLE);
     }
-    let FoundToken::OldToken(v) = t.token(token) else {
+    let FoundToken::OldToken(v) = lookup::token(t, token) else {
         return Reply::answered(t, Refusal::NOT_MADE);
     };
     if some_at(t, v.kind, v.name, 0) {

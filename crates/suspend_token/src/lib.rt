@@ -3,6 +3,8 @@
 ghost use mathlib.Core.Path.{_≡_};
 ghost use Rattle.model.specs.SuspendToken.{someAt, suspendTask, resumeTask, createToken};
 ghost use Rattle.model.specs.SuspendToken.{dropToken};
+use reading::thread_at;
+use reading::token_at;
 use record_token::Kind;
 use record_token::SuspendToken;
 use records::tables::Tables;
@@ -14,7 +16,7 @@ pub fn some_at(t: Tables, kind: u8, name: u8, count: u16) -> bool
     if kind == Kind::PROCESS {
         return scans::some_count(t, name, count);
     }
-    t.thread_at(name).suspends == count
+    thread_at(t, name).suspends == count
 }
 
 // `Task::suspend`.
@@ -24,7 +26,7 @@ pub fn suspend_task(t: Tables, kind: u8, name: u8) -> Tables
     if kind == Kind::PROCESS {
         return scans::suspend_threads(t, name);
     }
-    t.with_thread(name, t.thread_at(name).suspend())
+    t.with_thread(name, thread_at(t, name).suspend())
 }
 
 // `Task::resume`.
@@ -34,7 +36,7 @@ pub fn resume_task(t: Tables, kind: u8, name: u8) -> Tables
     if kind == Kind::PROCESS {
         return scans::resume_threads(t, name);
     }
-    t.with_thread(name, t.thread_at(name).resume())
+    t.with_thread(name, thread_at(t, name).resume())
 }
 
 // Making a token suspends its task.
@@ -48,6 +50,6 @@ pub fn create_token(t: Tables, token: u8, kind: u8, name: u8) -> Tables
 pub fn drop_token(t: Tables, token: u8, kind: u8, name: u8) -> Tables
     ensures { λ r. ⌜ r ≡ dropToken t token kind name ⌝ }
 {
-    let dropped = t.token_at(token).drop();
+    let dropped = token_at(t, token).drop();
     resume_task(t, kind, name).with_token(token, dropped)
 }

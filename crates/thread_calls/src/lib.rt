@@ -4,6 +4,8 @@
 ghost use mathlib.Core.Path.{_≡_};
 ghost use Rattle.model.specs.ThreadCalls.{createThread, startThread, killThread, exitThread};
 ghost use Rattle.model.specs.ThreadCalls.{threadInformation};
+use reading::process_at;
+use reading::thread_at;
 use records::reply::Reply;
 use records::tables::Tables;
 
@@ -11,8 +13,8 @@ use records::tables::Tables;
 pub fn create_with_ext(t: Tables, process: u8, new: u8) -> Reply
     ensures { λ r. ⌜ r ≡ createThread t process new ⌝ }
 {
-    let q = t.process_at(process_move::slot(process));
-    let v = t.thread_at(new % 128);
+    let q = process_at(t, process_move::slot(process));
+    let v = thread_at(t, new % 128);
     on_pair::both_moved(t, process, new, on_pair::create_thread(process, new, q, v))
 }
 
@@ -20,7 +22,7 @@ pub fn create_with_ext(t: Tables, process: u8, new: u8) -> Reply
 pub fn start(t: Tables, thread: u8) -> Reply
     ensures { λ r. ⌜ r ≡ startThread t thread ⌝ }
 {
-    let v = t.thread_at(thread_move::slot(thread));
+    let v = thread_at(t, thread_move::slot(thread));
     thread_move::moved(t, thread, on_thread::start(thread, v))
 }
 
@@ -28,7 +30,7 @@ pub fn start(t: Tables, thread: u8) -> Reply
 pub fn kill(t: Tables, thread: u8) -> Reply
     ensures { λ r. ⌜ r ≡ killThread t thread ⌝ }
 {
-    let v = t.thread_at(thread_move::slot(thread));
+    let v = thread_at(t, thread_move::slot(thread));
     thread_move::moved(t, thread, on_thread::kill(thread, v))
 }
 
@@ -36,7 +38,7 @@ pub fn kill(t: Tables, thread: u8) -> Reply
 pub fn exit(t: Tables, thread: u8) -> Reply
     ensures { λ r. ⌜ r ≡ exitThread t thread ⌝ }
 {
-    let v = t.thread_at(thread_move::slot(thread));
+    let v = thread_at(t, thread_move::slot(thread));
     thread_move::moved(t, thread, on_thread::exit(thread, v))
 }
 
@@ -44,6 +46,6 @@ pub fn exit(t: Tables, thread: u8) -> Reply
 pub fn get_thread_info(t: Tables, thread: u8) -> Reply
     ensures { λ r. ⌜ r ≡ threadInformation t thread ⌝ }
 {
-    let v = t.thread_at(thread_move::slot(thread));
+    let v = thread_at(t, thread_move::slot(thread));
     thread_move::moved(t, thread, on_thread::get_thread_info(thread, v))
 }

@@ -2,6 +2,7 @@
 // model/specs/ThreadCalls.antt, the calls over the thread's record in on_wait.
 ghost use mathlib.Core.Path.{_≡_};
 ghost use Rattle.model.specs.ThreadCalls.{beginWait, pollWait};
+use reading::thread_at;
 use records::reply::Reply;
 use records::tables::Tables;
 
@@ -9,7 +10,7 @@ use records::tables::Tables;
 pub fn begin_wait(t: Tables, thread: u8, state: u16) -> Reply
     ensures { λ r. ⌜ r ≡ beginWait t thread state ⌝ }
 {
-    let v = t.thread_at(thread_move::slot(thread));
+    let v = thread_at(t, thread_move::slot(thread));
     thread_move::moved(t, thread, on_wait::begin_wait(thread, v, state))
 }
 
@@ -17,6 +18,6 @@ pub fn begin_wait(t: Tables, thread: u8, state: u16) -> Reply
 pub fn poll_wait(t: Tables, thread: u8, ready: u8) -> Reply
     ensures { λ r. ⌜ r ≡ pollWait t thread ready ⌝ }
 {
-    let v = t.thread_at(thread_move::slot(thread));
+    let v = thread_at(t, thread_move::slot(thread));
     thread_move::moved(t, thread, on_wait::poll_wait(thread, v, ready))
 }

@@ -14,7 +14,7 @@ use mir.Facts.{toZ-ofZ}
 use Rattle.recorder.specs.declared.State.{State}
 use Rattle.recorder.specs.Recorder.{nextNumber, stateOf, fed, ahead}
 use Rattle.laws.proofs.Loops.{length-mapped}
-use Rattle.model.specs.Reachable.{Sized}
+use Rattle.records.specs.Tables.{Sized}
 use Rattle.deciding.specs.declared.Slots.{Slots}
 use Rattle.deciding.specs.Deciding.{storedAt}
 use Rattle.records.specs.Reply.{reply}

@@ -1,0 +1,19 @@
+-- The proofs of the claims about all lists of calls.
+pub mod SideTables
+pub mod Cross
+pub mod ThreadMaps
+pub mod Lengths
+pub mod Fixed
+pub mod Stays
+pub mod Enough
+pub mod Apart
+pub mod Found
+pub mod Searches
+pub mod Tree
+pub mod Quiet
+pub mod Does
+pub mod Sound
+pub mod Codes
+pub mod StopsWhole
+pub mod Separation
+pub mod Closings
