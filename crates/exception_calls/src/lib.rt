@@ -1,16 +1,14 @@
-// exception_calls: the calls on exceptions; their channels are in channel_calls. Each answers document 01's refusals in
+// exception_calls: raise and close; channels are in channel_calls, what a handler sets in handler_calls. Each answers document 01's refusals in
 // its order, and else what its definition in model/specs/ExceptionCalls.antt comes to.
 ghost use mathlib.Core.Path.{_≡_};
-ghost use Rattle.model.specs.ExceptionCalls.{raiseException, closeException, setState, setStrategy};
-ghost use Rattle.model.specs.ExceptionCalls.{getProcessHandle};
+ghost use Rattle.model.specs.ExceptionCalls.{raiseException, closeException};
 use error::Refusal;
-use levels::is_no_type;
-use levels::route_of;
-use reading::thread_at;
 use record_thread::FoundException;
 use records::reply::Reply;
 use records::tables::FoundThread;
 use records::tables::Tables;
+use routes::is_no_type;
+use routes::route_of;
 
 // 14: `CurrentThread::handle_exception`.
 pub fn handle_exception(t: Tables, thread: u8, kind: u16) -> Reply
@@ -45,28 +43,4 @@ pub fn close(t: Tables, thread: u8) -> Reply
         return Reply::answered(t, Refusal::OUT_OF_TURN);
     };
     handling::close(t, thread, e)
-}
-
-// 16: `ExceptionObject::set_state`.
-pub fn set_state(t: Tables, thread: u8, state: u32) -> Reply
-    ensures { λ r. ⌜ r ≡ setState t thread state ⌝ }
-{
-    let v = thread_at(t, thread_move::slot(thread));
-    thread_move::moved(t, thread, on_exception::set_state(thread, v, state))
-}
-
-// 17: `ExceptionObject::set_strategy`.
-pub fn set_strategy(t: Tables, thread: u8, strategy: u32) -> Reply
-    ensures { λ r. ⌜ r ≡ setStrategy t thread strategy ⌝ }
-{
-    let v = thread_at(t, thread_move::slot(thread));
-    thread_move::moved(t, thread, on_exception::set_strategy(thread, v, strategy))
-}
-
-// 18: `ExceptionObject::get_process_handle`.
-pub fn get_process_handle(t: Tables, thread: u8) -> Reply
-    ensures { λ r. ⌜ r ≡ getProcessHandle t thread ⌝ }
-{
-    let v = thread_at(t, thread_move::slot(thread));
-    thread_move::moved(t, thread, on_exception::get_process_handle(thread, v))
 }

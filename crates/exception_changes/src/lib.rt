@@ -13,8 +13,6 @@ ghost use Rattle.exception.specs.Places.{jobPlace};
 use change::Change;
 use change::unchanged;
 use error::ZxError;
-use levels::is_no_type;
-use levels::route_of;
 use model::Route;
 use on_raise::is_over;
 use record_exception::Exception;
@@ -30,6 +28,8 @@ use record_thread::ThreadState;
 use record_thread::Waiting;
 use records::reply::Fields;
 use records::tables::Tables;
+use routes::is_no_type;
+use routes::route_of;
 use rows::job_in;
 use rows::process_in;
 

@@ -11,7 +11,6 @@ use levels::level_at;
 use levels::owner_of;
 use levels::pass_over;
 use levels::process_of;
-use levels::route_of;
 use model::Handler;
 use model::Search;
 use on_raise::is_over;
@@ -25,6 +24,7 @@ use record_thread::Waiting;
 use records::reply::Fields;
 use records::reply::Reply;
 use records::tables::Tables;
+use routes::route_of;
 
 // The exception is over: the thread runs again, unless Dying.
 fn over_tables(t: Tables, thread: u8) -> Tables

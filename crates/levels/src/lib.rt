@@ -1,47 +1,13 @@
-// levels: the routes of an exception by type number, and the level and the owner of a place. Follows exception.rs.
+// levels: the level and the owner of a place in the order of handlers. Follows exception.rs.
 ghost use mathlib.Core.Path.{_≡_};
-ghost use Rattle.model.specs.Exception.{routeOf, isNoType, processOf, ownerOf, levelAt, passOver};
+ghost use Rattle.model.specs.Exception.{processOf, ownerOf, levelAt, passOver};
 ghost use Rattle.record_exception.specs.declared.Place as Place;
-use model::Route;
 use reading::job_at;
 use reading::process_at;
 use reading::thread_at;
 use record_exception::Level;
 use record_exception::Place;
 use records::tables::Tables;
-
-// The route of an exception type: one of the eleven, or none.
-pub fn route_of(kind: u16) -> Route
-    ensures { λ r. ⌜ r ≡ routeOf kind ⌝ }
-{
-    match kind {
-        0x0008 => Route::Ordinary,
-        0x0108 => Route::Ordinary,
-        0x0208 => Route::Ordinary,
-        0x0308 => Route::Ordinary,
-        0x0408 => Route::Ordinary,
-        0x0508 => Route::Ordinary,
-        0x8000 => Route::Ordinary,
-        0x8208 => Route::Ordinary,
-        0x8308 => Route::JobDebuggers,
-        0x8008 => Route::DebuggerOnly,
-        0x8108 => Route::ToExiting,
-        _ => Route::NoType,
-    }
-}
-
-// Not one of the eleven types.
-pub fn is_no_type(route: Route) -> bool
-    ensures { λ r. ⌜ r ≡ isNoType route ⌝ }
-{
-    match route {
-        Route::Ordinary => false,
-        Route::JobDebuggers => false,
-        Route::DebuggerOnly => false,
-        Route::ToExiting => false,
-        Route::NoType => true,
-    }
-}
 
 // The process of a thread.
 pub fn process_of(t: Tables, thread: u8) -> u8

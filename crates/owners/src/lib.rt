@@ -1,7 +1,7 @@
-// owners: names whose table depends on a number before them: the owner of a channel level, the task of a kind.
+// owners: the owner of a channel level, a name whose table depends on the level; specs/ has the tasks of a kind too.
 ghost use mathlib.Core.Path.{_≡_};
 ghost use Rattle.owners.specs.Owners.{ownersOf, processLevel, jobLevel, foundLevel};
-ghost use Rattle.owners.specs.Owners.{putLevel, tasksOf, foundTask};
+ghost use Rattle.owners.specs.Owners.{putLevel};
 use reading::job_at;
 use reading::process_at;
 use reading::thread_at;
@@ -102,39 +102,4 @@ pub fn with_level(t: Tables, level: u8, name: u8, l: Level) -> Tables
 pub enum FoundTask {
     NoTask,
     OldTask,
-}
-
-// How many names a kind has.
-pub fn tasks_of(kind: u8) -> u8
-    ensures { λ r. ⌜ r ≡ tasksOf kind ⌝ }
-{
-    if kind == 0 {
-        return 32;
-    }
-    if kind == 1 {
-        return 64;
-    }
-    128
-}
-
-// Whether a task is made.
-pub fn found_task(t: Tables, kind: u8, name: u8) -> FoundTask
-    ensures { λ r. ⌜ r ≡ foundTask t kind name ⌝ }
-{
-    if kind == 0 {
-        let FoundJob::OldJob(_) = lookup::job(t, name) else {
-            return FoundTask::NoTask;
-        };
-        return FoundTask::OldTask;
-    }
-    if kind == 1 {
-        let FoundProcess::OldProcess(_) = lookup::process(t, name) else {
-            return FoundTask::NoTask;
-        };
-        return FoundTask::OldTask;
-    }
-    let FoundThread::OldThread(_) = lookup::thread(t, name) else {
-        return FoundTask::NoTask;
-    };
-    FoundTask::OldTask
 }

@@ -194,18 +194,18 @@ fn waits(t: Tables) {
 
 // Token 0 is on process 0, which has a thread made after it.
 fn suspends(t: Tables) {
-    show(0x0d, suspend_calls::create(t, 64, 3, 128).answer);
-    show(0x0d, suspend_calls::create(t, 64, 2, 9).answer);
-    show(0x0d, suspend_calls::create(t, 0, 2, 128).answer);
-    show(0x0d, suspend_calls::create(t, 0, 2, 9).answer);
-    show(0x0d, suspend_calls::create(t, 0, 0, 1).answer);
-    show(0x0d, suspend_calls::create(t, 0, 2, 3).answer);
-    let held = suspend_calls::create(t, 0, 1, 2).tables;
-    show(0x0d, suspend_calls::create(held, 0, 0, 1).answer);
+    show(0x0d, token_calls::create(t, 64, 3, 128).answer);
+    show(0x0d, token_calls::create(t, 64, 2, 9).answer);
+    show(0x0d, token_calls::create(t, 0, 2, 128).answer);
+    show(0x0d, token_calls::create(t, 0, 2, 9).answer);
+    show(0x0d, token_calls::create(t, 0, 0, 1).answer);
+    show(0x0d, token_calls::create(t, 0, 2, 3).answer);
+    let held = token_calls::create(t, 0, 1, 2).tables;
+    show(0x0d, token_calls::create(held, 0, 0, 1).answer);
     let later = thread_calls::create_with_ext(held, 2, 9).tables;
-    show(0x0e, suspend_calls::drop(later, 64).answer);
-    show(0x0e, suspend_calls::drop(later, 9).answer);
-    show(0x0e, suspend_calls::drop(later, 0).answer);
+    show(0x0e, token_calls::drop(later, 64).answer);
+    show(0x0e, token_calls::drop(later, 9).answer);
+    show(0x0e, token_calls::drop(later, 0).answer);
     show(0x1e, suspend_calls::suspend(t, 3, 128).answer);
     show(0x1e, suspend_calls::suspend(t, 2, 128).answer);
     show(0x1e, suspend_calls::suspend(t, 2, 9).answer);
@@ -248,22 +248,19 @@ fn levels(t: Tables) {
 fn handlers(t: Tables) {
     let bound = channel_calls::create_channel(t, 2, 1).tables;
     let raised = exception_calls::handle_exception(bound, 1, 8).tables;
-    show(0x16, exception_calls::set_state(raised, 128, 2).answer);
-    show(0x16, exception_calls::set_state(raised, 9, 2).answer);
-    show(0x16, exception_calls::set_state(raised, 4, 2).answer);
-    show(0x16, exception_calls::set_state(raised, 1, 2).answer);
-    show(0x17, exception_calls::set_strategy(raised, 128, 2).answer);
-    show(0x17, exception_calls::set_strategy(raised, 9, 2).answer);
-    show(0x17, exception_calls::set_strategy(raised, 4, 2).answer);
-    show(0x17, exception_calls::set_strategy(raised, 1, 2).answer);
-    show(0x17, exception_calls::set_strategy(raised, 1, 1).answer);
-    show(
-        0x18,
-        exception_calls::get_process_handle(raised, 128).answer,
-    );
-    show(0x18, exception_calls::get_process_handle(raised, 9).answer);
-    show(0x18, exception_calls::get_process_handle(raised, 4).answer);
-    show(0x18, exception_calls::get_process_handle(raised, 1).answer);
+    show(0x16, handler_calls::set_state(raised, 128, 2).answer);
+    show(0x16, handler_calls::set_state(raised, 9, 2).answer);
+    show(0x16, handler_calls::set_state(raised, 4, 2).answer);
+    show(0x16, handler_calls::set_state(raised, 1, 2).answer);
+    show(0x17, handler_calls::set_strategy(raised, 128, 2).answer);
+    show(0x17, handler_calls::set_strategy(raised, 9, 2).answer);
+    show(0x17, handler_calls::set_strategy(raised, 4, 2).answer);
+    show(0x17, handler_calls::set_strategy(raised, 1, 2).answer);
+    show(0x17, handler_calls::set_strategy(raised, 1, 1).answer);
+    show(0x18, handler_calls::get_process_handle(raised, 128).answer);
+    show(0x18, handler_calls::get_process_handle(raised, 9).answer);
+    show(0x18, handler_calls::get_process_handle(raised, 4).answer);
+    show(0x18, handler_calls::get_process_handle(raised, 1).answer);
 }
 
 fn main() {

@@ -38,7 +38,7 @@ pub fn create(t: Tables, new: u8, kind: u8, name: u8) -> Change
     if 64 <= new {
         return c.answered(Refusal::PAST_TABLE);
     }
-    if owners::tasks_of(kind) <= name {
+    if tasks::tasks_of(kind) <= name {
         return c.answered(Refusal::PAST_TABLE);
     }
     if !task_made(c, kind) {

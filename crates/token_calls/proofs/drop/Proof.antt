@@ -1,8 +1,8 @@
 use Rattle.model.specs.ThreadCalls.{dropTokenCall}
 use Rattle.model.proofs.Answering.{answering}
 use borrow.Author.Needs.{needs}
-use Rattle.suspend_calls.proofs.drop.Statement.{statement}
-use Rattle.suspend_calls.proofs.drop.Tie as tie
+use Rattle.token_calls.proofs.drop.Statement.{statement}
+use Rattle.token_calls.proofs.drop.Tie as tie
 
 pub drop-spec : {M : Type 1} → statement M
 unfolding dropTokenCall

@@ -1,9 +1,9 @@
 use Rattle.laws.proofs.Flow.{branches}
 use Rattle.owners.specs.Owners.{foundTask}
 use Rattle.owners.proofs.Laws.{tasks}
 use borrow.Author.Needs.{needs}
-use Rattle.owners.proofs.found_task.Statement.{statement}
-use Rattle.owners.proofs.found_task.Tie as tie
+use Rattle.tasks.proofs.found_task.Statement.{statement}
+use Rattle.tasks.proofs.found_task.Tie as tie
 
 pub found-task-spec : {M : Type 1} → statement M
 unfolding foundTask

@@ -1,7 +1,7 @@
 use Rattle.thread_move.proofs.Moving.{whole}
 use borrow.Author.Needs.{needs}
-use Rattle.exception_calls.proofs.set_state.Statement.{statement}
-use Rattle.exception_calls.proofs.set_state.Tie as tie
+use Rattle.handler_calls.proofs.set_state.Statement.{statement}
+use Rattle.handler_calls.proofs.set_state.Tie as tie
 
 pub set-state-spec : {M : Type 1} → statement M
 set-state-spec =

@@ -6,8 +6,8 @@ use Rattle.records.specs.Reply.{answered}
 use Rattle.model.specs.ThreadCalls.{createTokenCall}
 use Rattle.model.proofs.Answering.{answering}
 use borrow.Author.Needs.{needs}
-use Rattle.suspend_calls.proofs.create.Statement.{statement}
-use Rattle.suspend_calls.proofs.create.Tie as tie
+use Rattle.token_calls.proofs.create.Statement.{statement}
+use Rattle.token_calls.proofs.create.Tie as tie
 
 past-then6 : (c : tie.Then6) {x : Reply} →
     let a = c .before .before .before .before .before .before .before .before .before .before .before .before .args in

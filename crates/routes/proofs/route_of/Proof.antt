@@ -1,8 +1,8 @@
 use Rattle.laws.specs.Choice.{_or_, if_then_else_}
 use Rattle.model.specs.Exception.{isHardware, routeOf}
-use Rattle.levels.proofs.Laws.{no-type}
-use Rattle.levels.proofs.route_of.Statement.{statement}
-use Rattle.levels.proofs.route_of.Tie as tie
+use Rattle.routes.proofs.Laws.{no-type}
+use Rattle.routes.proofs.route_of.Statement.{statement}
+use Rattle.routes.proofs.route_of.Tie as tie
 
 pub route-of-spec : {M : Type 1} → statement M
 unfolding routeOf isHardware if_then_else_ _or_

@@ -1,7 +1,7 @@
 use Rattle.laws.proofs.Flow.{branches}
 use Rattle.owners.specs.Owners.{tasksOf}
-use Rattle.owners.proofs.tasks_of.Statement.{statement}
-use Rattle.owners.proofs.tasks_of.Tie as tie
+use Rattle.tasks.proofs.tasks_of.Statement.{statement}
+use Rattle.tasks.proofs.tasks_of.Tie as tie
 
 pub tasks-of-spec : {M : Type 1} → statement M
 unfolding tasksOf
