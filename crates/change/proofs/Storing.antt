@@ -1,5 +1,5 @@
 -- A record put back where it was read changes nothing, so of a change only what differs is stored.
---     left-open                                nothing is said of a call
+--     left-open, no-fields                     nothing is said of a call
 --     job-read, own-read, ..                   what was read
 --     stays                                    nothing differs
 --     stores-job, stores-process, ..           one record differs
@@ -28,6 +28,7 @@ use Rattle.record_token.specs.declared.SuspendToken.{SuspendToken}
 use Rattle.record_token.specs.SuspendToken.{noToken}
 use Rattle.records.specs.declared.tables.Tables.{Tables}
 use Rattle.records.specs.declared.reply.Fields.{Fields}
+use Rattle.records.specs.declared.reply.Fields.the-variants.{NoFields}
 use Rattle.records.specs.Reply.{reply, answered}
 use Rattle.records.specs.Tables.{jobAt, ownAt, inheritedAt, processAt, fixedAt, threadAt, tokenAt}
 use Rattle.records.specs.Tables.{putJob, putOwn, putInherited, putProcess, putFixed, putThread}
@@ -40,6 +41,10 @@ module _ (t : Tables) (j p n k : ℕ) {c : Change} (e : c ≡ defs.unchanged t j
   pub left-open : {A : Type 0} → c .whole ≡ true → A
   unfolding defs.unchanged
   left-open h = no-both h (ap (λ (x : Change). x .whole) e)
+
+  pub no-fields : c .fields ≡ NoFields
+  unfolding defs.unchanged
+  no-fields = ap (λ (x : Change). x .fields) e
 
   -- ---- What was read -------------------------------------------------------------------------
 
@@ -101,54 +106,78 @@ module _ (t : Tables) (j p n k : ℕ) {c : Change} (e : c ≡ defs.unchanged t j
 
   -- nothing differs
   pub stays : {r : Change} (a : ℤ) → r ≡ defs.answered c a → defs.stored t r ≡ answered t a
-  unfolding defs.stored defs.storing defs.spread if_then_else_ defs.unchanged putJob putOwn putInherited putProcess putFixed putThread putToken reply answered
+  unfolding defs.stored defs.storing defs.spread if_then_else_ defs.unchanged putJob putOwn putInherited putProcess
+      putFixed putThread putToken reply answered
   stays a x = rw (x, e, jobs-kept, own-kept, inherited-kept, processes-kept, fixed-kept, threads-kept, tokens-kept)
 
   -- one record differs
-  pub stores-job : {r : Change} (v : Job) (a : ℤ) → r ≡ defs.answered (defs.withJob c v) a → defs.stored t r ≡ answered (putJob t (j % 32) v) a
-  unfolding defs.stored defs.storing defs.spread if_then_else_ defs.unchanged putJob putOwn putInherited putProcess putFixed putThread putToken reply answered
+  pub stores-job : {r : Change} (v : Job) (a : ℤ) →
+      r ≡ defs.answered (defs.withJob c v) a → defs.stored t r ≡ answered (putJob t (j % 32) v) a
+  unfolding defs.stored defs.storing defs.spread if_then_else_ defs.unchanged putJob putOwn putInherited putProcess
+      putFixed putThread putToken reply answered
   stores-job v a x = rw (x, e, own-kept, inherited-kept, processes-kept, fixed-kept, threads-kept, tokens-kept)
 
-  pub stores-own : {r : Change} (v : JobPolicy) (a : ℤ) → r ≡ defs.answered (defs.withOwn c v) a → defs.stored t r ≡ answered (putOwn t (j % 32) v) a
-  unfolding defs.stored defs.storing defs.spread if_then_else_ defs.unchanged putJob putOwn putInherited putProcess putFixed putThread putToken reply answered
+  pub stores-own : {r : Change} (v : JobPolicy) (a : ℤ) →
+      r ≡ defs.answered (defs.withOwn c v) a → defs.stored t r ≡ answered (putOwn t (j % 32) v) a
+  unfolding defs.stored defs.storing defs.spread if_then_else_ defs.unchanged putJob putOwn putInherited putProcess
+      putFixed putThread putToken reply answered
   stores-own v a x = rw (x, e, jobs-kept, inherited-kept, processes-kept, fixed-kept, threads-kept, tokens-kept)
 
-  pub stores-process : {r : Change} (v : Process) (a : ℤ) → r ≡ defs.answered (defs.withProcess c v) a → defs.stored t r ≡ answered (putProcess t (p % 64) v) a
-  unfolding defs.stored defs.storing defs.spread if_then_else_ defs.unchanged putJob putOwn putInherited putProcess putFixed putThread putToken reply answered
+  pub stores-process : {r : Change} (v : Process) (a : ℤ) →
+      r ≡ defs.answered (defs.withProcess c v) a → defs.stored t r ≡ answered (putProcess t (p % 64) v) a
+  unfolding defs.stored defs.storing defs.spread if_then_else_ defs.unchanged putJob putOwn putInherited putProcess
+      putFixed putThread putToken reply answered
   stores-process v a x = rw (x, e, jobs-kept, own-kept, inherited-kept, fixed-kept, threads-kept, tokens-kept)
 
-  pub stores-thread : {r : Change} (v : Thread) (a : ℤ) (f : Fields) → r ≡ defs.shown (defs.withThread c v) a f → defs.stored t r ≡ reply (putThread t (n % 128) v) a f
-  unfolding defs.stored defs.storing defs.spread if_then_else_ defs.unchanged putJob putOwn putInherited putProcess putFixed putThread putToken reply answered
+  pub stores-thread : {r : Change} (v : Thread) (a : ℤ) (f : Fields) →
+      r ≡ defs.shown (defs.withThread c v) a f → defs.stored t r ≡ reply (putThread t (n % 128) v) a f
+  unfolding defs.stored defs.storing defs.spread if_then_else_ defs.unchanged putJob putOwn putInherited putProcess
+      putFixed putThread putToken reply answered
   stores-thread v a f x = rw (x, e, jobs-kept, own-kept, inherited-kept, processes-kept, fixed-kept, tokens-kept)
 
   -- a new job or process with its policy
-  pub stores-new-job : {r : Change} (v : Job) (o : JobPolicy) (a : ℤ) → r ≡ defs.answered (defs.withInherited (defs.withJob c v) o) a → defs.stored t r ≡ answered (putInherited (putJob t (j % 32) v) (j % 32) o) a
-  unfolding defs.stored defs.storing defs.spread if_then_else_ defs.unchanged putJob putOwn putInherited putProcess putFixed putThread putToken reply answered
+  pub stores-new-job : {r : Change} (v : Job) (o : JobPolicy) (a : ℤ) →
+      r ≡ defs.answered (defs.withInherited (defs.withJob c v) o) a →
+      defs.stored t r ≡ answered (putInherited (putJob t (j % 32) v) (j % 32) o) a
+  unfolding defs.stored defs.storing defs.spread if_then_else_ defs.unchanged putJob putOwn putInherited putProcess
+      putFixed putThread putToken reply answered
   stores-new-job v o a x = rw (x, e, own-kept, processes-kept, fixed-kept, threads-kept, tokens-kept)
 
-  pub stores-new-process : {r : Change} (v : Process) (o : JobPolicy) (a : ℤ) → r ≡ defs.answered (defs.withFixed (defs.withProcess c v) o) a → defs.stored t r ≡ answered (putFixed (putProcess t (p % 64) v) (p % 64) o) a
-  unfolding defs.stored defs.storing defs.spread if_then_else_ defs.unchanged putJob putOwn putInherited putProcess putFixed putThread putToken reply answered
+  pub stores-new-process : {r : Change} (v : Process) (o : JobPolicy) (a : ℤ) →
+      r ≡ defs.answered (defs.withFixed (defs.withProcess c v) o) a →
+      defs.stored t r ≡ answered (putFixed (putProcess t (p % 64) v) (p % 64) o) a
+  unfolding defs.stored defs.storing defs.spread if_then_else_ defs.unchanged putJob putOwn putInherited putProcess
+      putFixed putThread putToken reply answered
   stores-new-process v o a x = rw (x, e, jobs-kept, own-kept, inherited-kept, threads-kept, tokens-kept)
 
   -- a thread and a token
-  pub stores-token : {r : Change} (v : Thread) (w : SuspendToken) (a : ℤ) → r ≡ defs.answered (defs.withToken (defs.withThread c v) w) a → defs.stored t r ≡ answered (putToken (putThread t (n % 128) v) (k % 64) w) a
-  unfolding defs.stored defs.storing defs.spread if_then_else_ defs.unchanged putJob putOwn putInherited putProcess putFixed putThread putToken reply answered
+  pub stores-token : {r : Change} (v : Thread) (w : SuspendToken) (a : ℤ) →
+      r ≡ defs.answered (defs.withToken (defs.withThread c v) w) a →
+      defs.stored t r ≡ answered (putToken (putThread t (n % 128) v) (k % 64) w) a
+  unfolding defs.stored defs.storing defs.spread if_then_else_ defs.unchanged putJob putOwn putInherited putProcess
+      putFixed putThread putToken reply answered
   stores-token v w a x = rw (x, e, jobs-kept, own-kept, inherited-kept, processes-kept, fixed-kept)
 
   -- each thread of a process, and its record or a token
   pub spreads : {r : Change} (x : ℕ) (a : ℤ) → (x =? 0) ≡ false → r ≡ defs.answered (defs.withEach c x) a →
       defs.stored t r ≡ answered (withThreads t (map (eachIn x p) (t .threads))) a
-  unfolding defs.stored defs.storing defs.spread if_then_else_ defs.unchanged putJob putOwn putInherited putProcess putFixed putThread putToken reply answered
-  spreads x a h y = rw (y, e, h, jobs-kept, own-kept, inherited-kept, processes-kept, fixed-kept, threads-kept, tokens-kept)
+  unfolding defs.stored defs.storing defs.spread if_then_else_ defs.unchanged putJob putOwn putInherited putProcess
+      putFixed putThread putToken reply answered
+  spreads x a h y =
+      rw (y, e, h, jobs-kept, own-kept, inherited-kept, processes-kept, fixed-kept, threads-kept, tokens-kept)
 
   pub stores-process-spreads : {r : Change} (v : Process) (x : ℕ) (a : ℤ) → (x =? 0) ≡ false →
       r ≡ defs.answered (defs.withEach (defs.withProcess c v) x) a →
       defs.stored t r ≡ answered (withThreads (putProcess t (p % 64) v) (map (eachIn x p) (t .threads))) a
-  unfolding defs.stored defs.storing defs.spread if_then_else_ defs.unchanged putJob putOwn putInherited putProcess putFixed putThread putToken reply answered
-  stores-process-spreads v x a h y = rw (y, e, h, jobs-kept, own-kept, inherited-kept, fixed-kept, threads-kept, tokens-kept)
+  unfolding defs.stored defs.storing defs.spread if_then_else_ defs.unchanged putJob putOwn putInherited putProcess
+      putFixed putThread putToken reply answered
+  stores-process-spreads v x a h y =
+      rw (y, e, h, jobs-kept, own-kept, inherited-kept, fixed-kept, threads-kept, tokens-kept)
 
   pub stores-token-spreads : {r : Change} (w : SuspendToken) (x : ℕ) (a : ℤ) → (x =? 0) ≡ false →
       r ≡ defs.answered (defs.withToken (defs.withEach c x) w) a →
       defs.stored t r ≡ answered (putToken (withThreads t (map (eachIn x p) (t .threads))) (k % 64) w) a
-  unfolding defs.stored defs.storing defs.spread if_then_else_ defs.unchanged putJob putOwn putInherited putProcess putFixed putThread putToken reply answered
-  stores-token-spreads w x a h y = rw (y, e, h, jobs-kept, own-kept, inherited-kept, processes-kept, fixed-kept, threads-kept)
+  unfolding defs.stored defs.storing defs.spread if_then_else_ defs.unchanged putJob putOwn putInherited putProcess
+      putFixed putThread putToken reply answered
+  stores-token-spreads w x a h y =
+      rw (y, e, h, jobs-kept, own-kept, inherited-kept, processes-kept, fixed-kept, threads-kept)

@@ -69,7 +69,7 @@ shown c answer fields =
     }
 
 abbrev pub answered : Change → ℤ → Change
-answered c answer = shown c answer NoFields
+answered c answer = shown c answer (c .fields)
 
 -- one record changed
 abbrev pub withRecords : Change → Job → JobPolicy → JobPolicy → Process → JobPolicy → Thread → SuspendToken → Change

@@ -31,7 +31,7 @@ pub struct Change {
     pub token: SuspendToken,
 }
 
-// The records as they are, and nothing said of a call.
+// The records as they are, and nothing said of a call. A caller notes what differs in the fields.
 pub fn unchanged(t: Tables, j: u8, p: u8, n: u8, k: u8) -> Change
     ensures { λ r. ⌜ r ≡ defs.unchanged t j p n k ⌝ }
 {
@@ -58,99 +58,13 @@ pub fn unchanged(t: Tables, j: u8, p: u8, n: u8, k: u8) -> Change
     }
 }
 
-// -- A call that these records are all of --------------------------------------------------
-
 impl Change {
-    // An answer with no field.
-    pub fn answered(self, answer: i64) -> Change
+    // An answer to a call that these records are all of, with the fields that are noted.
+    pub fn answered(mut self, answer: i64) -> Change
         ensures { λ r. ⌜ r ≡ defs.answered self answer ⌝ }
     {
-        self.shown(answer, Fields::NoFields)
-    }
-
-    // An answer with its fields.
-    pub fn shown(self, answer: i64, fields: Fields) -> Change
-        ensures { λ r. ⌜ r ≡ defs.shown self answer fields ⌝ }
-    {
-        let job = self.job;
-        let own = self.own;
-        let inherited = self.inherited;
-        let process = self.process;
-        let fixed = self.fixed;
-        let thread = self.thread;
-        let token = self.token;
-        Change {
-            whole: true,
-            answer: answer,
-            fields: fields,
-            j: self.j,
-            p: self.p,
-            n: self.n,
-            k: self.k,
-            each: self.each,
-            job: job,
-            own: own,
-            inherited: inherited,
-            process: process,
-            fixed: fixed,
-            thread: thread,
-            token: token,
-        }
-    }
-
-    pub fn with_job(mut self, v: Job) -> Change
-        ensures { λ r. ⌜ r ≡ defs.withJob self v ⌝ }
-    {
-        self.job = v;
-        self
-    }
-
-    pub fn with_own(mut self, v: JobPolicy) -> Change
-        ensures { λ r. ⌜ r ≡ defs.withOwn self v ⌝ }
-    {
-        self.own = v;
-        self
-    }
-
-    pub fn with_inherited(mut self, v: JobPolicy) -> Change
-        ensures { λ r. ⌜ r ≡ defs.withInherited self v ⌝ }
-    {
-        self.inherited = v;
-        self
-    }
-
-    pub fn with_process(mut self, v: Process) -> Change
-        ensures { λ r. ⌜ r ≡ defs.withProcess self v ⌝ }
-    {
-        self.process = v;
-        self
-    }
-
-    pub fn with_fixed(mut self, v: JobPolicy) -> Change
-        ensures { λ r. ⌜ r ≡ defs.withFixed self v ⌝ }
-    {
-        self.fixed = v;
-        self
-    }
-
-    pub fn with_thread(mut self, v: Thread) -> Change
-        ensures { λ r. ⌜ r ≡ defs.withThread self v ⌝ }
-    {
-        self.thread = v;
-        self
-    }
-
-    pub fn with_token(mut self, v: SuspendToken) -> Change
-        ensures { λ r. ⌜ r ≡ defs.withToken self v ⌝ }
-    {
-        self.token = v;
-        self
-    }
-
-    pub fn with_each(mut self, each: u8) -> Change
-        ensures { λ r. ⌜ r ≡ defs.withEach self each ⌝ }
-    {
-        self.each = each;
+        self.whole = true;
+        self.answer = answer;
         self
     }
 }

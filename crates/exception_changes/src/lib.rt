@@ -2,6 +2,7 @@
 // the thread alone changes. Follows exception.rs. What is left open may change more.
 ghost use mathlib.Core.Path.{_≡_};
 ghost use Rattle.model.specs.ExceptionCalls.{raiseException, closeException};
+ghost use Rattle.change.specs.Change as defs;
 ghost use Rattle.change.specs.Change.{Comes};
 ghost use Rattle.exception_changes.specs.Goes.{goesAt, fromSecond, fromProcess, fromThread};
 ghost use Rattle.exception_changes.specs.Goes.{fromDebugger, firstGoes, aboveGoes, afterDebugger};
@@ -9,6 +10,7 @@ ghost use Rattle.exception_changes.specs.Goes.{nextGoes, jobOf, isHungUp
 ghost use Rattle.exception_changes.specs.Goes.{ownerIn, waitsAt, endsNowhere, delivers, exitsTo};
 ghost use Rattle.exception_changes.specs.declared.Goes as Goes;
 ghost use Rattle.record_exception.specs.declared.Place as Place;
+ghost use Rattle.records.specs.declared.reply.Fields as Fields;
 ghost use Rattle.exception.specs.Places.{jobPlace};
 use change::Change;
 use change::unchanged;
@@ -243,26 +245,56 @@ fn owner_in(v: Thread, thread: u8, place: Place) -> u8
     }
 }
 
+// An answer with the owner of the level that handles it, or 0.
+fn shown(c: Change, answer: i64, owner: u8) -> Change
+    ensures { λ r. ⌜ r ≡ defs.shown c answer (Fields.OwnerField owner) ⌝ }
+{
+    let job = c.job;
+    let own = c.own;
+    let inherited = c.inherited;
+    let process = c.process;
+    let fixed = c.fixed;
+    let thread = c.thread;
+    let token = c.token;
+    Change {
+        whole: true,
+        answer: answer,
+        fields: Fields::OwnerField(owner),
+        j: c.j,
+        p: c.p,
+        n: c.n,
+        k: c.k,
+        each: c.each,
+        job: job,
+        own: own,
+        inherited: inherited,
+        process: process,
+        fixed: fixed,
+        thread: thread,
+        token: token,
+    }
+}
+
 // The thread waits at a place.
-fn waits_at(c: Change, place: Place, thread: u8, kind: u16, second: bool) -> Change
+fn waits_at(mut c: Change, place: Place, thread: u8, kind: u16, second: bool) -> Change
     ensures { λ r. ⌜ r ≡ waitsAt c place thread kind second ⌝ }
 {
     let v = c.thread;
     let e = Exception::at(kind, place, second);
     let w = v.waits(ThreadState::BLOCKED_EXCEPTION, Waiting::InException(e));
     let owner = owner_in(v, thread, place);
-    c.with_thread(w)
-        .shown(place.level() as i64, Fields::OwnerField(owner))
+    c.thread = w;
+    shown(c, place.level() as i64, owner)
 }
 
 // Nobody handles it: types without the bit 0x8000 also exit the process, and are left open.
-fn ends_nowhere(c: Change, kind: u16) -> Change
+fn ends_nowhere(mut c: Change, kind: u16) -> Change
     ensures { λ r. ⌜ r ≡ endsNowhere c kind ⌝ }
 {
     let v = c.thread;
     if ExceptionType::SYNTH <= kind {
-        return c.with_thread(v.end_wait())
-            .shown(ZxError::NEXT, Fields::OwnerField(0));
+        c.thread = v.end_wait();
+        return shown(c, ZxError::NEXT, 0);
     }
     c
 }
@@ -279,7 +311,7 @@ fn deliver(c: Change, goes: Goes, thread: u8, kind: u16, second: bool) -> Change
 }
 
 // ThreadExiting goes to level 1 and leaves the state; a killed thread sends it and is stopped.
-fn exits_to(c: Change, q: Process, kind: u16) -> Change
+fn exits_to(mut c: Change, q: Process, kind: u16) -> Change
     ensures { λ r. ⌜ r ≡ exitsTo c q kind ⌝ }
 {
     let v = c.thread;
@@ -288,14 +320,15 @@ fn exits_to(c: Change, q: Process, kind: u16) -> Change
         return c;
     }
     if !level.is_bound() {
-        return c.shown(ZxError::NEXT, Fields::OwnerField(0));
+        return shown(c, ZxError::NEXT, 0);
     }
     if v.killed {
-        return c.shown(ZxError::STOP, Fields::OwnerField(0));
+        return shown(c, ZxError::STOP, 0);
     }
     let e = Exception::at(kind, Place::Exiting, false);
     let w = v.waits(v.state, Waiting::InException(e));
-    c.with_thread(w).shown(1, Fields::OwnerField(v.process))
+    c.thread = w;
+    shown(c, 1, v.process)
 }
 
 // -- The calls -----------------------------------------------------------------------------

@@ -16,7 +16,7 @@ use records::tables::Tables;
 pub fn create_child(t: Tables, job: u8, new: u8) -> Change
     ensures { λ r. ⌜ Comes t (createChild t job new) r ⌝ }
 {
-    let c = unchanged(t, new, 0, 0, 0);
+    let mut c = unchanged(t, new, 0, 0, 0);
     let jobs = t.jobs;
     let own = t.own;
     let inherited = t.inherited;
@@ -37,8 +37,9 @@ pub fn create_child(t: Tables, job: u8, new: u8) -> Change
     if v.killed {
         return c.answered(ZxError::BAD_STATE);
     }
-    let policy = rows::policy_in(own, job).merge(rows::policy_in(inherited, job));
-    c.with_job(Job::new(job)).with_inherited(policy).answered(0)
+    c.job = Job::new(job);
+    c.inherited = rows::policy_in(own, job).merge(rows::policy_in(inherited, job));
+    c.answered(0)
 }
 
 // Whether the parent is killed, so that it may terminate with its last child.
@@ -55,7 +56,7 @@ fn below_killed(jobs: [Job; 32], parent: Parent) -> bool
 pub fn kill(t: Tables, job: u8) -> Change
     ensures { λ r. ⌜ Comes t (killJobCall t job) r ⌝ }
 {
-    let c = unchanged(t, job, 0, 0, 0);
+    let mut c = unchanged(t, job, 0, 0, 0);
     let jobs = t.jobs;
     let processes = t.processes;
     if 32 <= job {
@@ -78,5 +79,6 @@ pub fn kill(t: Tables, job: u8) -> Change
     if below_killed(jobs, parent) {
         return c;
     }
-    c.with_job(v.killed().terminated()).answered(0)
+    c.job = v.killed().terminated();
+    c.answered(0)
 }

@@ -14,14 +14,15 @@ use records::tables::Tables;
 pub fn set_policy_timer_slack(t: Tables, job: u8, policy: TimerSlackPolicy) -> Change
     ensures { λ r. ⌜ Comes t (setPolicyTimerSlack t job policy) r ⌝ }
 {
-    let c = unchanged(t, job, 0, 0, 0);
+    let mut c = unchanged(t, job, 0, 0, 0);
     let jobs = t.jobs;
     let processes = t.processes;
     let empty = lists::job_empty(jobs, processes, job);
     let j = c.job;
     let m = on_job::set_policy_timer_slack(job, j, empty, policy);
     let v = m.job;
-    c.with_job(v).answered(m.answer)
+    c.job = v;
+    c.answered(m.answer)
 }
 
 // 0f: `Job::set_policy_basic`, with at most four entries. A name past the table is left open.
@@ -34,7 +35,7 @@ pub fn set_policy_four(
 ) -> Change
     ensures { λ r. ⌜ Comes t (setPolicyBasic t job option (take count policies)) r ⌝ }
 {
-    let c = unchanged(t, job, 0, 0, 0);
+    let mut c = unchanged(t, job, 0, 0, 0);
     let jobs = t.jobs;
     let processes = t.processes;
     if 32 <= job {
@@ -57,9 +58,9 @@ pub fn set_policy_four(
         return c.answered(ZxError::BAD_STATE);
     }
     let set = w.own;
-    let d = c.with_own(set);
+    c.own = set;
     if w.refused {
-        return d.answered(ZxError::ALREADY_EXISTS);
+        return c.answered(ZxError::ALREADY_EXISTS);
     }
-    d.answered(0)
+    c.answered(0)
 }

@@ -15,7 +15,7 @@ use records::tables::Tables;
 // Each thread of a process changed, or the refusal where one has the count that stands in the way. A job
 // can't be suspended: the Rust panics.
 fn task_change(
-    c: Change,
+    mut c: Change,
     threads: [Thread; 128],
     kind: u8,
     name: u8,
@@ -48,7 +48,8 @@ fn task_change(
     if lists::some_count(threads, name, count) {
         return c.answered(refusal);
     }
-    c.with_each(each).answered(0)
+    c.each = each;
+    c.answered(0)
 }
 
 // 1e: `Task::suspend`.

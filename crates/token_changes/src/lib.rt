@@ -31,7 +31,7 @@ fn task_made(c: Change, kind: u8) -> bool
 pub fn create(t: Tables, new: u8, kind: u8, name: u8) -> Change
     ensures { λ r. ⌜ Comes t (createTokenCall t new kind name) r ⌝ }
 {
-    let c = unchanged(t, name, name, name, new);
+    let mut c = unchanged(t, name, name, name, new);
     if 2 < kind {
         return c.answered(Refusal::BAD_FIELD);
     }
@@ -57,13 +57,17 @@ pub fn create(t: Tables, new: u8, kind: u8, name: u8) -> Change
         if lists::some_count(threads, name, 65535) {
             return c.answered(Refusal::FULL);
         }
-        return c.with_each(Each::SUSPEND).with_token(w).answered(0);
+        c.each = Each::SUSPEND;
+        c.token = w;
+        return c.answered(0);
     }
     let v = c.thread;
     if v.suspends == 65535 {
         return c.answered(Refusal::FULL);
     }
-    c.with_thread(v.suspend()).with_token(w).answered(0)
+    c.thread = v.suspend();
+    c.token = w;
+    c.answered(0)
 }
 
 // 0e: a token dropped.
@@ -72,7 +76,7 @@ pub fn drop(t: Tables, token: u8) -> Change
 {
     let held = unchanged(t, 0, 0, 0, token);
     let k = held.token;
-    let c = unchanged(t, 0, k.name, k.name, token);
+    let mut c = unchanged(t, 0, k.name, k.name, token);
     if 64 <= token {
         return c.answered(Refusal::PAST_TABLE);
     }
@@ -85,7 +89,9 @@ pub fn drop(t: Tables, token: u8) -> Change
         if lists::some_count(threads, k.name, 0) {
             return c.answered(Refusal::PANICS);
         }
-        return c.with_each(Each::RESUME).with_token(w).answered(0);
+        c.each = Each::RESUME;
+        c.token = w;
+        return c.answered(0);
     }
     if 128 <= k.name {
         return c;
@@ -94,5 +100,7 @@ pub fn drop(t: Tables, token: u8) -> Change
     if v.suspends == 0 {
         return c.answered(Refusal::PANICS);
     }
-    c.with_thread(v.resume()).with_token(w).answered(0)
+    c.thread = v.resume();
+    c.token = w;
+    c.answered(0)
 }

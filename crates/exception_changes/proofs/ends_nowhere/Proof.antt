@@ -13,10 +13,8 @@ ends-nowhere-spec =
     (tie.spec
     (λ c κs. search needs)
     (λ c κs. search needs)
-    (λ c κs. search needs)
     (λ c.
-    let w = c .before in
-    let e = w .before in
+    let e = c .before in
     first _ _ (le-leb _ _ (e .before .if1 .taken))
-    (simp (w .with-thread .ensures, e .end-wait .ensures) at (c .shown .ensures)))
+    (simp (e .end-wait .ensures) at (c .shown .ensures)))
     (λ c. second _ _ (lt-leb _ _ (c .if1 .left)) refl))

@@ -30,10 +30,8 @@ exits-to-spec =
     (λ c κs. search needs)
     (λ c κs. search needs)
     (λ c κs. search needs)
-    (λ c κs. search needs)
     (λ c.
-    let w = c .before in
-    let v = w .before in
+    let v = c .before in
     let a = v .before in
     let k = a .before in
     let o = k .before in
@@ -42,4 +40,4 @@ exits-to-spec =
     second _ _ (told (h .before .is-hung-up .ensures) (h .if1 .left))
     (second _ _ (told-not (b .is-bound .ensures) (o .if2 .left))
     (second _ _ (k .if3 .left)
-    (simp (w .with-thread .ensures, v .waits .ensures, a .at .ensures) at (c .shown3 .ensures))))))
+    (simp (v .waits .ensures, a .at .ensures) at (c .shown3 .ensures))))))

@@ -11,18 +11,15 @@ waits-at-spec =
     (λ c κs. search needs)
     (λ c κs. search needs)
     (λ c κs. search needs)
-    (λ c κs. search needs)
     (λ c. search needs)
     (λ c κs. search needs)
     (λ c.
     let l = c .before in
-    let w = l .before in
-    let o = w .before in
+    let o = l .before in
     let x = o .before in
     simp (
       l .level .ensures,
       as-answer,
-      w .with-thread .ensures,
       o .owner-in .ensures,
       x .waits .ensures,
       x .before .at .ensures,

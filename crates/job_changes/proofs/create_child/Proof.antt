@@ -56,15 +56,12 @@ create-child-spec =
     (λ c κs. search needs)
     (λ c κs. search needs)
     (λ c κs. search needs)
-    (λ c κs. search needs)
-    (λ c κs. search needs)
     (λ c.
-    let w = c .before .before in
-    let k = w .before in
-    let o = k .before in
+    let o = c .before in
     let q = o .before in
     let p = q .before in
-    let i = p .before in
+    let k = p .before in
+    let i = k .before in
     let f = i .before in
     let m = f .before .before in
     let v = m .before .before in
@@ -72,8 +69,6 @@ create-child-spec =
     let a = b .before in
     let n = a .before .before .before .before in
     let r = simp (
-      c .before .with-inherited .ensures,
-      w .with-job .ensures,
       k .new .ensures,
       o .merge .ensures,
       q .policy-in2 .ensures,

@@ -31,10 +31,8 @@ kill-spec =
     (λ c κs. search needs)
     (λ c κs. search needs)
     (λ c κs. search needs)
-    (λ c κs. search needs)
     (λ c.
-    let w = c .before in
-    let v = w .before in
+    let v = c .before in
     let d = v .before in
     let b = d .before in
     let q = b .before .before in
@@ -43,8 +41,7 @@ kill-spec =
     let m = k .before in
     let a = m .before .before .before in
     let u = a .before .before .before in
-    let r = simp (w .with-job .ensures, v .terminated .ensures, d .killed .ensures)
-    at (c .answered .ensures) in
+    let r = simp (v .terminated .ensures, d .killed .ensures) at (c .answered .ensures) in
     λ _. kills _ _ (u .unchanged .ensures) (a .if1 .left) (not-false _ (m .if2 .left)) (k .if3 .left)
     (told (l .before .lists-child .ensures) (l .if4 .left))
     (told (q .before .lists-process .ensures) (q .if5 .left))

@@ -51,10 +51,8 @@ set-policy-four-spec =
     (o .if2 .left) (b .if3 .left) (not-false _ (m .if4 .left)) (k .job-empty .ensures) (c .answered4 .ensures)
     (not-true _ (c .before .if5 .taken)))
     (λ c κs. search needs)
-    (λ c κs. search needs)
     (λ c _.
-    let d = c .before .before in
-    let n = d .before .before in
+    let n = c .before .before .before in
     let k = n .before in
     let m = k .before in
     let b = m .before .before .before in
@@ -63,11 +61,10 @@ set-policy-four-spec =
     let i = f .before .before .before in
     list-taken _ _ _ _ (i .before .before .before .unchanged .ensures) (i .if1 .left) (f .four .ensures)
     (o .if2 .left) (b .if3 .left) (not-false _ (m .if4 .left)) (k .job-empty .ensures) _ (rw (c .before .if6 .taken))
-    (simp (d .with-own .ensures) at (c .answered5 .ensures)) (not-false _ (n .if5 .left)))
+    (c .answered5 .ensures) (not-false _ (n .if5 .left)))
     (λ c κs. search needs)
     (λ c _.
-    let d = c .before .before in
-    let n = d .before .before in
+    let n = c .before .before .before in
     let k = n .before in
     let m = k .before in
     let b = m .before .before .before in
@@ -76,4 +73,4 @@ set-policy-four-spec =
     let i = f .before .before .before in
     list-taken _ _ _ _ (i .before .before .before .unchanged .ensures) (i .if1 .left) (f .four .ensures)
     (o .if2 .left) (b .if3 .left) (not-false _ (m .if4 .left)) (k .job-empty .ensures) _ (rw (c .before .if6 .left))
-    (simp (d .with-own .ensures) at (c .answered6 .ensures)) (not-false _ (n .if5 .left))))
+    (c .answered6 .ensures) (not-false _ (n .if5 .left))))

@@ -14,12 +14,10 @@ set-policy-timer-slack-spec =
     (λ c κs. search needs)
     (λ c κs. search needs)
     (λ c κs. search needs)
-    (λ c κs. search needs)
     (λ c _.
-    let w = c .before .before in
-    let m = w .before .before in
+    let m = c .before .before .before in
     let got : SFits w64 (m .set-policy-timer-slack .result .answer) = search (needs, m .set-policy-timer-slack .ok) in
-    let e = simp (w .with-job .ensures, toZ-ofZ {w = w64} got) at (c .answered .ensures) in
+    let e = simp (toZ-ofZ {w = w64} got) at (c .answered .ensures) in
     let b = m .before .before in
     keeps-stored _ _ _ (m .set-policy-timer-slack .result) (b .before .before .before .unchanged .ensures)
     (b .job-empty .ensures) (m .set-policy-timer-slack .ensures .0)

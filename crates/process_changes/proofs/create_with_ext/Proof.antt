@@ -22,21 +22,13 @@ create-with-ext-spec =
     (λ c κs. search needs)
     (λ c κs. search needs)
     (λ c κs. search needs)
-    (λ c κs. search needs)
-    (λ c κs. search needs)
     (λ c.
-    let p = c .before .before in
-    let n = p .before in
-    let m = n .before in
-    let k = m .before .before .before in
+    let m = c .before in
+    let n = m .before in
+    let k = n .before .before .before in
     let made = k .before .before .before in
     let in-job = made .before .before .before in
     let u = in-job .before .before in
-    let r = simp (
-      c .before .with-fixed .ensures,
-      p .with-process .ensures,
-      n .new .ensures,
-      m .merge .ensures,
-    ) at (c .answered .ensures) in
+    let r = simp (n .new .ensures, m .merge .ensures) at (c .answered .ensures) in
     λ _. creates _ _ _ (u .unchanged .ensures) (in-job .before .if1 .left) (in-job .if2 .left)
     (not-false _ (made .if3 .left)) (k .before .if4 .left) (k .if5 .left) r))

@@ -24,20 +24,15 @@ exit-spec =
     (λ c κs. search needs)
     (λ c κs. search needs)
     (λ c κs. search needs)
-    (λ c κs. search needs)
-    (λ c κs. search needs)
     (λ c.
-    let e = c .before in
-    let w = e .before in
-    let l = w .before in
+    let l = c .before in
     let s = l .before .before in
     let x = s .before in
     let m = x .before .before in
     let a = m .before .before .before in
     let u = a .before .before .before in
     let code = toZ-ofZ {w = w64} (u .before .fits .code) in
-    let r = simp (e .with-each .ensures, w .with-process .ensures, s .with-status .ensures, code)
-    at (c .answered .ensures) in
+    let r = simp (s .with-status .ensures, code) at (c .answered .ensures) in
     λ _. stops _ _ _ (u .unchanged .ensures) (a .if1 .left) (not-false _ (m .if2 .left))
     (told (x .before .is-exited .ensures) (x .if3 .left))
     (told (l .before .lists-thread .ensures) (l .if4 .taken)) r)
@@ -51,10 +46,8 @@ exit-spec =
     left-open _ _ _ _ _ (b .before .before .before .before .before .before .before .unchanged .ensures))
     (λ c κs. search needs)
     (λ c κs. search needs)
-    (λ c κs. search needs)
     (λ c.
-    let w = c .before in
-    let v = w .before in
+    let v = c .before in
     let j = v .before in
     let b = j .before .before in
     let l = b .before .before in
@@ -65,8 +58,7 @@ exit-spec =
     let u = a .before .before .before in
     let k = ap (λ (o : Job). o .killed) (sym (j .before .job-in .ensures)) ∙ j .if6 .left in
     let code = toZ-ofZ {w = w64} (u .before .fits .code) in
-    let r = simp (w .with-process2 .ensures, v .ended .ensures, s .with-status .ensures, code)
-    at (c .answered2 .ensures) in
+    let r = simp (v .ended .ensures, s .with-status .ensures, code) at (c .answered2 .ensures) in
     λ _. exits _ _ _ (u .unchanged .ensures) (a .if1 .left) (not-false _ (m .if2 .left))
     (told (x .before .is-exited .ensures) (x .if3 .left))
     (told (l .before .lists-thread .ensures) (l .if4 .left))

@@ -31,7 +31,4 @@ task-change-spec =
     let e = c .answered6 .ensures ∙ ap (answered (a .args .c)) (toZ-ofZ {w = w64} (a .fits .refusal)) in
     search (branches, e) depth 20)
     (λ c κs. search needs)
-    (λ c κs. search needs)
-    (λ c.
-    let e = simp (c .before .with-each .ensures) at (c .answered7 .ensures) in
-    search (branches, e) depth 20))
+    (λ c. search (branches, c .answered7 .ensures) depth 20))

@@ -95,12 +95,8 @@ create-spec =
     (y .if7 .taken) (v .some-count .ensures)
     (stays _ _ _ _ _ (u .unchanged .ensures) _ (c .answered7 .ensures)) (i .if8 .taken))
     (λ c κs. search needs)
-    (λ c κs. search needs)
-    (λ c κs. search needs)
     (λ c w.
-    let k1 = c .before in
-    let k2 = k1 .before in
-    let i = k2 .before in
+    let i = c .before in
     let v = i .before in
     let y = v .before .before in
     let n0 = y .before in
@@ -113,11 +109,7 @@ create-spec =
     let l = m .before in
     let k = l .before in
     let u = k .before in
-    let e = simp (
-      k1 .with-token .ensures,
-      k2 .with-each .ensures,
-      n0 .new .ensures,
-    ) at (c .answered8 .ensures) in
+    let e = simp (n0 .new .ensures) at (c .answered8 .ensures) in
     over-process _ _ _ _ (k .if1 .left) (l .if2 .left) (m .tasks-of .ensures) (n .if3 .left)
     (u .unchanged .ensures) (b .task-made .ensures) (f .if4 .left) (g .if5 .left) (z .if6 .left)
     (y .if7 .taken) (v .some-count .ensures) (i .if8 .left) e)
@@ -141,12 +133,8 @@ create-spec =
     (stays _ _ _ _ _ (u .unchanged .ensures) _ (c .answered9 .ensures)) (i .if9 .taken))
     (λ c κs. search needs)
     (λ c κs. search needs)
-    (λ c κs. search needs)
-    (λ c κs. search needs)
     (λ c w.
-    let k1 = c .before in
-    let k2 = k1 .before in
-    let s = k2 .before in
+    let s = c .before in
     let i = s .before in
     let y = i .before .before .before in
     let n0 = y .before in
@@ -159,12 +147,7 @@ create-spec =
     let l = m .before in
     let k = l .before in
     let u = k .before in
-    let e = simp (
-      k1 .with-token2 .ensures,
-      k2 .with-thread .ensures,
-      s .suspend .ensures,
-      n0 .new .ensures,
-    ) at (c .answered10 .ensures) in
+    let e = simp (s .suspend .ensures, n0 .new .ensures) at (c .answered10 .ensures) in
     over-thread _ _ _ _ (k .if1 .left) (l .if2 .left) (m .tasks-of .ensures) (n .if3 .left)
     (u .unchanged .ensures) (b .task-made .ensures) (f .if4 .left) (g .if5 .left) (z .if6 .left)
     (y .if7 .left) (i .if9 .left) e))

@@ -39,23 +39,15 @@ drop-spec =
     (y .if3 .taken) (v .some-count .ensures)
     (stays _ _ _ _ _ (u .unchanged2 .ensures) _ (c .answered3 .ensures)) (i .if4 .taken))
     (λ c κs. search needs)
-    (λ c κs. search needs)
-    (λ c κs. search needs)
     (λ c w.
-    let k1 = c .before in
-    let k2 = k1 .before in
-    let i = k2 .before in
+    let i = c .before in
     let v = i .before in
     let y = v .before .before in
     let k0 = y .before .before in
     let p = k0 .before in
     let l = p .before .before in
     let u = l .before in
-    let e = simp (
-      k1 .with-token .ensures,
-      k2 .with-each .ensures,
-      k0 .drop .ensures,
-    ) at (c .answered4 .ensures) in
+    let e = simp (k0 .drop .ensures) at (c .answered4 .ensures) in
     off-process _ _ (l .if1 .left) (u .before .before .unchanged .ensures) (p .if2 .left)
     (u .unchanged2 .ensures)
     (y .if3 .taken) (v .some-count .ensures) (i .if4 .left) e)
@@ -80,12 +72,8 @@ drop-spec =
     (stays _ _ _ _ _ (u .unchanged2 .ensures) _ (c .answered5 .ensures)) (i .if6 .taken))
     (λ c κs. search needs)
     (λ c κs. search needs)
-    (λ c κs. search needs)
-    (λ c κs. search needs)
     (λ c w.
-    let k1 = c .before in
-    let k2 = k1 .before in
-    let s = k2 .before in
+    let s = c .before in
     let i = s .before in
     let x = i .before .before .before in
     let y = x .before .before in
@@ -93,12 +81,7 @@ drop-spec =
     let p = k0 .before in
     let l = p .before .before in
     let u = l .before in
-    let e = simp (
-      k1 .with-token2 .ensures,
-      k2 .with-thread .ensures,
-      s .resume .ensures,
-      k0 .drop .ensures,
-    ) at (c .answered6 .ensures) in
+    let e = simp (s .resume .ensures, k0 .drop .ensures) at (c .answered6 .ensures) in
     off-thread _ _ (l .if1 .left) (u .before .before .unchanged .ensures) (p .if2 .left)
     (u .unchanged2 .ensures)
     (y .if3 .left) (x .if5 .left) (i .if6 .left) e))

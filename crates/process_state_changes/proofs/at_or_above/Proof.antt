@@ -11,8 +11,8 @@ use Rattle.records.specs.Tables.{jobAt}
 use Rattle.model.specs.Job.{isAbove}
 use Rattle.model.proofs.Upward.{above-out, above-here, above-orphan, above-goes}
 use borrow.Author.Needs.{needs}
-use Rattle.process_changes.proofs.at_or_above.Statement.{statement}
-use Rattle.process_changes.proofs.at_or_above.Tie as tie
+use Rattle.process_state_changes.proofs.at_or_above.Statement.{statement}
+use Rattle.process_state_changes.proofs.at_or_above.Tie as tie
 
 -- what is left of the search decides as the whole does, in any tables with these jobs
 abbrev Inv-loop : tie.InvT-loop

@@ -2,9 +2,9 @@ use borrow.Author.Needs.{needs}
 use borrow.Author.Tests.{not-true, not-false}
 use Rattle.laws.proofs.Flow.{told}
 use Rattle.change.proofs.Storing.{left-open}
-use Rattle.process_changes.proofs.Laws.{denies, binds}
-use Rattle.process_changes.proofs.set_critical_at_job.Statement.{statement}
-use Rattle.process_changes.proofs.set_critical_at_job.Tie as tie
+use Rattle.process_state_changes.proofs.Laws.{denies, binds}
+use Rattle.process_state_changes.proofs.set_critical_at_job.Statement.{statement}
+use Rattle.process_state_changes.proofs.set_critical_at_job.Tie as tie
 
 pub set-critical-at-job-spec : {M : Type 1} → statement M
 set-critical-at-job-spec =
@@ -40,12 +40,10 @@ set-critical-at-job-spec =
     (not-true _ (c .before .if7 .taken)) (c .answered .ensures))
     (λ c κs. search needs)
     (λ c κs. search needs)
-    (λ c κs. search needs)
     (λ c.
-    let w = c .before in
-    let v = w .before in
+    let v = c .before in
     let i = v .before .before in
-    let r = simp (w .with-process .ensures, v .bind-to .ensures) at (c .answered2 .ensures) in
+    let r = simp (v .bind-to .ensures) at (c .answered2 .ensures) in
     let k = i .before in
     let n = k .before .before in
     let m = n .before .before .before in
