@@ -208,7 +208,7 @@ fn create_channel(level: u8, owner: u8, v: Thread, q: Process, j: Job) -> Decide
     }
     match level {
         1 => by_process(on_process_level::create_channel(true, owner, q), v, j),
-        2 => by_thread(on_exception::create_channel(owner, v), q, j),
+        2 => by_thread(on_thread_level::create_channel(owner, v), q, j),
         3 => by_process(on_process_level::create_channel(false, owner, q), v, j),
         4 => by_job(on_job_level::create_channel(false, owner, j), v, q),
         5 => by_job(on_job_level::create_channel(true, owner, j), v, q),
@@ -228,7 +228,7 @@ fn hang_up(level: u8, owner: u8, v: Thread, q: Process, j: Job) -> Decided
     }
     match level {
         1 => by_process(on_process_level::hang_up(true, owner, q), v, j),
-        2 => by_thread(on_exception::hang_up(owner, v), q, j),
+        2 => by_thread(on_thread_level::hang_up(owner, v), q, j),
         3 => by_process(on_process_level::hang_up(false, owner, q), v, j),
         4 => by_job(on_job_level::hang_up(false, owner, j), v, q),
         5 => by_job(on_job_level::hang_up(true, owner, j), v, q),

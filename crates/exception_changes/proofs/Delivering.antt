@@ -47,7 +47,7 @@ use Rattle.model.specs.Exception.{levelAt, raiseExiting}
 use Rattle.model.specs.ExceptionCalls.{raiseException, closeException}
 use Rattle.model.proofs.Answering.{accepts, the-thread, the-exception}
 use Rattle.exception.specs.Places.{jobPlace}
-use Rattle.on_raise.specs.OnRaise.{isOver}
+use Rattle.exception_over.specs.Over.{isOver}
 use Rattle.change.specs.declared.Change.{Change}
 use Rattle.change.specs.Change as defs
 use Rattle.change.proofs.Storing.{left-open, thread-read, stores-thread}

@@ -1,9 +1,9 @@
 -- Calls on one job, over the records that they name alone: `Moves` says that a move is what the call comes to, whatever
 -- the rest of the tables is, `Settles` that it is so where the record decides the call.
 use Prim.Native.Nat.{ℕ, _%_}
-use mathlib.Core.Bool.{Bool, true, false}
+use mathlib.Core.Bool.{Bool, false}
 use mathlib.Core.Path.{_≡_}
-use lib.IntN.{ℤ, pos}
+use lib.IntN.{ℤ}
 use Rattle.laws.specs.Choice.{if_then_else_}
 use Rattle.job_policy.specs.Policy.{noPolicy}
 use Rattle.job_policy.specs.declared.JobPolicy.{JobPolicy}
@@ -48,12 +48,6 @@ abbrev pub Keeps : (Tables → Reply) → ℕ → Job → Bool → Move → Type
 Keeps f n j empty m = (t : Tables) → jobAt t (slot n) ≡ j → jobEmpty t n ≡ empty → moved t n m ≡ f t
 
 -- ---- Where the record decides the call -------------------------------------------------------
-
-abbrev pub settled : Job → ℤ → Early
-settled j answer = record { is_open = false; done = move j answer }
-
-abbrev pub undecided : Job → Early
-undecided j = record { is_open = true; done = move j (pos 0) }
 
 -- the call f on job n, whose record is j, comes to what r has done, unless r is open
 abbrev pub Settles : (Tables → Reply) → ℕ → Job → Early → Type 0

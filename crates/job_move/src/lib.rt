@@ -1,7 +1,7 @@
 // job_move: what a call on one job comes to over the records that it names alone, a move, and the reply that the move
 // stands for. specs/JobMove.antt says when a move is what the call comes to.
 ghost use mathlib.Core.Path.{_≡_};
-ghost use Rattle.job_move.specs.JobMove.{slot, move, foundIn, moved, settled, undecided};
+ghost use Rattle.job_move.specs.JobMove.{slot, move, foundIn, moved};
 use job_policy::JobPolicy;
 use record_job::Job;
 use records::reply::Fields;
@@ -63,25 +63,5 @@ pub fn moved(t: Tables, job: u8, m: Move) -> Reply
         fields: fields,
         policy: policy,
         tables: t.with_job(slot(job), m.job),
-    }
-}
-
-// Decided: an answer, and the job stays.
-pub fn decided(j: Job, answer: i64) -> Early
-    ensures { λ r. ⌜ r ≡ settled j answer ⌝ }
-{
-    Early {
-        is_open: false,
-        done: answered(j, answer),
-    }
-}
-
-// Not decided: what is done means nothing.
-pub fn left_open(j: Job) -> Early
-    ensures { λ r. ⌜ r ≡ undecided j ⌝ }
-{
-    Early {
-        is_open: true,
-        done: answered(j, 0),
     }
 }

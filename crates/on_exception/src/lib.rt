@@ -1,13 +1,11 @@
-// on_exception: the calls on one thread's channel and on its exception, over its record alone. Follows exception.rs.
+// on_exception: the calls on one thread's exception, over its record alone. Follows exception.rs.
 // Each answers document 01's refusals in its order; thread_move/specs/ThreadMove.antt says what a move means.
 ghost use mathlib.Core.Path.{_≡_};
-ghost use Rattle.model.specs.ExceptionCalls.{bindLevel, hangUpLevel, setState, hasStrategy};
-ghost use Rattle.model.specs.ExceptionCalls.{setStrategy, getProcessHandle};
+ghost use Rattle.model.specs.ExceptionCalls.{setState, hasStrategy, setStrategy, getProcessHandle};
 ghost use Rattle.thread_move.specs.ThreadMove.{Moves};
 use error::Refusal;
 use error::ZxError;
 use record_exception::Exception;
-use record_exception::Level;
 use record_thread::FoundException;
 use record_thread::Thread;
 use record_thread::Waiting;
@@ -15,43 +13,6 @@ use records::tables::FoundThread;
 use thread_move::Move;
 use thread_move::answered;
 use thread_move::found;
-
-// 12: `Exceptionate::create_channel` at level 2.
-pub fn create_channel(thread: u8, v: Thread) -> Move
-    ensures { λ r. ⌜ Moves (λ t. bindLevel t 2 thread) thread v r ⌝ }
-{
-    if 128 <= thread {
-        return answered(v, Refusal::PAST_TABLE);
-    }
-    let FoundThread::OldThread(w) = found(v) else {
-        return answered(v, Refusal::NOT_MADE);
-    };
-    let l = w.level2;
-    if l.is_shut() {
-        return answered(v, ZxError::BAD_STATE);
-    }
-    if l.is_bound() {
-        return answered(v, ZxError::ALREADY_BOUND);
-    }
-    answered(w.with_level2(Level::Bound), 0)
-}
-
-// 13: the handler at level 2 hangs up.
-pub fn hang_up(thread: u8, v: Thread) -> Move
-    ensures { λ r. ⌜ Moves (λ t. hangUpLevel t 2 thread) thread v r ⌝ }
-{
-    if 128 <= thread {
-        return answered(v, Refusal::PAST_TABLE);
-    }
-    let FoundThread::OldThread(w) = found(v) else {
-        return answered(v, Refusal::NOT_MADE);
-    };
-    let l = w.level2;
-    if !l.is_bound() {
-        return answered(v, Refusal::OUT_OF_TURN);
-    }
-    answered(w.with_level2(Level::HungUp), 0)
-}
 
 // 16: `ExceptionObject::set_state`.
 pub fn set_state(thread: u8, v: Thread, state: u32) -> Move

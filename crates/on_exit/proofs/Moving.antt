@@ -1,34 +1,28 @@
 -- How a `return` of a function meets a call's definition where the records decide the call: `search deciding` closes it.
 --     settles, stays-open      a decided call, and one that is not
 --     exited-stays             nothing changes on an Exited process
---     looked-up-job, ..        the records as the tables have them
 --     kills                    killing is exiting with the code of a killed process
 -- Assumes nothing.
-use Prim.Native.Nat.{ℕ, _%_, _<_}
+use Prim.Native.Nat.{ℕ, _<_}
 use mathlib.Core.Path.{_≡_, refl, ap, sym, _∙_}
 use mathlib.Core.Bool.{Bool, true, false}
-use native.Mathlib.Omega.{arith}
 use lib.IntN.{ℤ, pos}
 use Rattle.laws.specs.Choice.{ite}
 use Rattle.laws.proofs.Cases.{no-both}
-use Rattle.record_job.specs.declared.Job.{Job}
 use Rattle.record_process.specs.declared.Process.{Process}
 use Rattle.record_process.specs.Process.{isExited, KILL-CODE}
 use Rattle.records.specs.declared.tables.Tables.{Tables}
-use Rattle.records.specs.declared.tables.FoundJob.{FoundJob}
 use Rattle.records.specs.Reply.{answered}
-use Rattle.records.specs.Tables.{jobAt, processAt, foundJob}
+use Rattle.records.specs.Tables.{processAt}
 use Rattle.model.specs.Job.{exitStep, exitWithin, exitProcess}
 use Rattle.model.specs.JobCalls.{exitProcessCall, killProcess}
 use Rattle.model.proofs.Answering.{answering}
 use Rattle.model.proofs.Live.{exited-process}
 use Rattle.process_move.specs.declared.Early.{Early}
-use Rattle.process_move.specs.ProcessMove.{slot, moved, settled, undecided}
+use Rattle.process_move.specs.ProcessMove.{slot, moved}
 use Rattle.process_move.proofs.Moving.{same, stays, looked-up}
-use Rattle.on_exit.specs.OnExit.{foundJobIn}
-
-same-job : (j : ℕ) → j < 32 → j % 32 ≡ j
-same-job j h = omega arith
+use Rattle.job_move.proofs.Moving as job
+use Rattle.on_exit.specs.OnExit.{settled, undecided}
 
 pub settles : {r : Early} (t : Tables) (p : ℕ) {q : Process} (c : ℤ) →
     r ≡ settled q c → processAt t (slot p) ≡ q → moved t p (r .done) ≡ answered t c
@@ -41,11 +35,6 @@ stays-open q e h = no-both (ap (λ (u : Early). u .is_open) e) h
 pub new-made : {q : Process} {b : Bool} (t : Tables) (p : ℕ) →
     processAt t (slot p) ≡ q → p < 64 → q .made ≡ b → processAt t p .made ≡ b
 new-made {q} {b} t p e h m = ap (λ (u : ℕ). processAt t u .made) (sym (same p h)) ∙ ap (λ (u : Process). u .made) e ∙ m
-
-pub looked-up-job : {g : FoundJob} (t : Tables) (n : ℕ) {j : Job} →
-    g ≡ foundJobIn j → n < 32 → jobAt t (n % 32) ≡ j → g ≡ foundJob t n
-unfolding foundJobIn foundJob
-looked-up-job t n e h k = e ∙ rw (← k, same-job n h)
 
 -- nothing changes on an Exited process
 exited-same : (t : Tables) (p : ℕ) (code : ℤ) → isExited (processAt t p .status) ≡ true → exitProcess t p code ≡ t
@@ -60,7 +49,7 @@ exited-stays t p {q} code e h k x =
     let y : isExited (processAt t p .status) ≡ true = ap (λ (u : Process). isExited (u .status)) s ∙ x in
     settles t p (pos 0) e h ∙ ap (λ (u : Tables). answered u (pos 0)) (sym (exited-same t p code y))
 
-pub ruleset deciding = (answering, settles, looked-up, looked-up-job, new-made, exited-stays)
+pub ruleset deciding = (answering, settles, looked-up, job.looked-up, new-made, exited-stays)
 
 pub kills : (t : Tables) (p : ℕ) → exitProcessCall t p KILL-CODE ≡ killProcess t p
 unfolding exitProcessCall killProcess

@@ -1,8 +1,12 @@
--- The job that a call on a process names, over its record alone.
-use Rattle.laws.specs.Choice.{if_then_else_}
-use Rattle.record_job.specs.declared.Job.{Job}
-use Rattle.records.specs.declared.tables.FoundJob.{FoundJob}
-use Rattle.records.specs.declared.tables.FoundJob.the-variants.{NoJob, OldJob}
+-- What a call on a process comes to where its record decides it, and where it does not.
+use mathlib.Core.Bool.{true, false}
+use lib.IntN.{ℤ, pos}
+use Rattle.record_process.specs.declared.Process.{Process}
+use Rattle.process_move.specs.declared.Early.{Early}
+use Rattle.process_move.specs.ProcessMove.{move}
 
-unfoldable pub foundJobIn : Job → FoundJob
-foundJobIn j = if j .made then OldJob j else NoJob
+abbrev pub settled : Process → ℤ → Early
+settled q answer = record { is_open = false; done = move q answer }
+
+abbrev pub undecided : Process → Early
+undecided q = record { is_open = true; done = move q (pos 0) }

@@ -3,17 +3,45 @@
 ghost use mathlib.Core.Path.{_≡_};
 ghost use Rattle.model.specs.JobCalls.{createProcess, exitProcessCall, setCriticalAtJob};
 ghost use Rattle.process_move.specs.ProcessMove.{SettlesEach, SettlesAt};
-ghost use Rattle.on_exit.specs.OnExit.{foundJobIn};
+ghost use Rattle.on_exit.specs.OnExit.{settled, undecided};
 use error::Refusal;
 use error::ZxError;
 use process_move::Early;
-use process_move::decided;
+use process_move::Move;
 use process_move::found;
-use process_move::left_open;
 use record_job::Job;
 use record_process::Process;
+use records::reply::Fields;
 use records::tables::FoundJob;
 use records::tables::FoundProcess;
+
+// Decided: an answer, and the process stays.
+fn decided(q: Process, answer: i64) -> Early
+    ensures { λ r. ⌜ r ≡ settled q answer ⌝ }
+{
+    Early {
+        is_open: false,
+        done: Move {
+            answer: answer,
+            fields: Fields::NoFields,
+            process: q,
+        },
+    }
+}
+
+// Not decided: what is done means nothing.
+fn left_open(q: Process) -> Early
+    ensures { λ r. ⌜ r ≡ undecided q ⌝ }
+{
+    Early {
+        is_open: true,
+        done: Move {
+            answer: 0,
+            fields: Fields::NoFields,
+            process: q,
+        },
+    }
+}
 
 // 05, 06: `Process::exit` and `Process::kill`, with any code: nothing changes on an Exited process.
 pub fn exit(process: u8, q: Process) -> Early
@@ -34,16 +62,6 @@ pub fn exit(process: u8, q: Process) -> Early
 
 // -- A process and a job -------------------------------------------------------------------
 
-// A made job.
-fn found_job(j: Job) -> FoundJob
-    ensures { λ r. ⌜ r ≡ foundJobIn j ⌝ }
-{
-    if j.made {
-        return FoundJob::OldJob(j);
-    }
-    FoundJob::NoJob
-}
-
 // 07: `Process::set_critical_at_job`, up to where the job is looked for above the process.
 pub fn set_critical_at_job(process: u8, job: u8, flag: u8, q: Process, j: Job) -> Early
     ensures { λ r. ⌜ SettlesAt (λ t. setCriticalAtJob t process job flag) process job q j r ⌝ }
@@ -60,7 +78,7 @@ pub fn set_critical_at_job(process: u8, job: u8, flag: u8, q: Process, j: Job) -
     let FoundProcess::OldProcess(w) = found(q) else {
         return decided(q, Refusal::NOT_MADE);
     };
-    let FoundJob::OldJob(_) = found_job(j) else {
+    let FoundJob::OldJob(_) = job_move::found(j) else {
         return decided(q, Refusal::NOT_MADE);
     };
     let critical = w.critical;
@@ -80,7 +98,7 @@ pub fn create_with_ext(job: u8, new: u8, j: Job, q: Process) -> Early
     if 64 <= new {
         return decided(q, Refusal::PAST_TABLE);
     }
-    let FoundJob::OldJob(v) = found_job(j) else {
+    let FoundJob::OldJob(v) = job_move::found(j) else {
         return decided(q, Refusal::NOT_MADE);
     };
     if q.made {

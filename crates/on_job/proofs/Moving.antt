@@ -23,9 +23,9 @@ use Rattle.model.specs.JobCalls.{jobInfo}
 use Rattle.model.proofs.Answering.{answering}
 use Rattle.model.proofs.Live.{killed-job}
 use Rattle.job_move.specs.declared.Early.{Early}
-use Rattle.job_move.specs.JobMove.{slot, moved, settled, undecided}
+use Rattle.job_move.specs.JobMove.{slot, moved}
 use Rattle.job_move.proofs.Moving.{same, kept, stays, stores, looked-up}
-use Rattle.on_job.specs.OnJob.{fieldsOf}
+use Rattle.on_job.specs.OnJob.{settled, undecided, fieldsOf}
 
 pub shows : {f : Fields} {p own inherited : JobPolicy} (t : Tables) (n : ℕ) {j : Job} (w : Job) →
     f ≡ fieldsOf w → p ≡ merge own inherited → jobAt t (slot n) ≡ j → ownAt t (slot n) ≡ own →

@@ -3,15 +3,13 @@
 ghost use mathlib.Core.Path.{_≡_};
 ghost use Rattle.model.specs.JobCalls.{killJobCall, setPolicyTimerSlack, jobInformation};
 ghost use Rattle.job_move.specs.JobMove.{move, Shows, Keeps, Settles};
-ghost use Rattle.on_job.specs.OnJob.{fieldsOf};
+ghost use Rattle.on_job.specs.OnJob.{settled, undecided, fieldsOf};
 use error::Refusal;
 use error::ZxError;
 use job_move::Early;
 use job_move::Move;
 use job_move::answered;
-use job_move::decided;
 use job_move::found;
-use job_move::left_open;
 use job_policy::JobPolicy;
 use job_policy::TimerSlackPolicy;
 use record_job::Job;
@@ -52,6 +50,26 @@ pub fn get_info(job: u8, j: Job, own: JobPolicy, inherited: JobPolicy) -> Move
 }
 
 // -- Killing -------------------------------------------------------------------------------
+
+// Decided: an answer, and the job stays.
+fn decided(j: Job, answer: i64) -> Early
+    ensures { λ r. ⌜ r ≡ settled j answer ⌝ }
+{
+    Early {
+        is_open: false,
+        done: answered(j, answer),
+    }
+}
+
+// Not decided: what is done means nothing.
+fn left_open(j: Job) -> Early
+    ensures { λ r. ⌜ r ≡ undecided j ⌝ }
+{
+    Early {
+        is_open: true,
+        done: answered(j, 0),
+    }
+}
 
 // 02: `Job::kill`: nothing changes on a killed job.
 pub fn kill(job: u8, j: Job) -> Early

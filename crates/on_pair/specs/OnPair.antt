@@ -3,12 +3,9 @@
 use Prim.Native.Nat.{ℕ, _%_}
 use mathlib.Core.Path.{_≡_}
 use lib.IntN.{ℤ}
-use Rattle.laws.specs.Choice.{if_then_else_}
 use Rattle.record_process.specs.declared.Process.{Process}
 use Rattle.record_thread.specs.declared.Thread.{Thread}
 use Rattle.records.specs.declared.tables.Tables.{Tables}
-use Rattle.records.specs.declared.tables.FoundThread.{FoundThread}
-use Rattle.records.specs.declared.tables.FoundThread.the-variants.{NoThread, OldThread}
 use Rattle.records.specs.declared.reply.Reply.{Reply}
 use Rattle.records.specs.Reply.{answered}
 use Rattle.records.specs.Tables.{processAt, threadAt, putProcess, putThread}
@@ -16,9 +13,6 @@ use Rattle.on_pair.specs.declared.Both.{Both}
 
 abbrev pub two : Process → Thread → ℤ → Both
 two q v answer = record { answer = answer; process = q; thread = v }
-
-unfoldable pub foundThreadIn : Thread → FoundThread
-foundThreadIn v = if v .made then OldThread v else NoThread
 
 -- the tables with both records stored where they were
 unfoldable pub bothMoved : Tables → ℕ → ℕ → Both → Reply

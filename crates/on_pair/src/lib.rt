@@ -3,7 +3,7 @@
 ghost use mathlib.Core.Path.{_≡_};
 ghost use Rattle.model.specs.JobCalls.{startProcess};
 ghost use Rattle.model.specs.ThreadCalls.{createThread};
-ghost use Rattle.on_pair.specs.OnPair.{two, foundThreadIn, bothMoved, MovesBoth};
+ghost use Rattle.on_pair.specs.OnPair.{two, bothMoved, MovesBoth};
 use error::Refusal;
 use error::ZxError;
 use process_move::found;
@@ -34,16 +34,6 @@ fn pair(q: Process, v: Thread, answer: i64) -> Both
     }
 }
 
-// A made thread.
-fn found_thread(w: Thread) -> FoundThread
-    ensures { λ r. ⌜ r ≡ foundThreadIn w ⌝ }
-{
-    if w.made {
-        return FoundThread::OldThread(w);
-    }
-    FoundThread::NoThread
-}
-
 // The reply with both records stored where they were.
 pub fn both_moved(t: Tables, process: u8, thread: u8, m: Both) -> Reply
     ensures { λ r. ⌜ r ≡ bothMoved t process thread m ⌝ }
@@ -65,7 +55,7 @@ pub fn start(process: u8, thread: u8, q: Process, v: Thread) -> Both
     let FoundProcess::OldProcess(old) = found(q) else {
         return pair(q, v, Refusal::NOT_MADE);
     };
-    let FoundThread::OldThread(w) = found_thread(v) else {
+    let FoundThread::OldThread(w) = thread_move::found(v) else {
         return pair(q, v, Refusal::NOT_MADE);
     };
     if w.started {

@@ -1,9 +1,10 @@
--- How a `return` that decides a raising or a closing meets the call's definition.
+-- How a `return` meets a call's definition: `search settling` closes one that decides the call, `left-open` one that
+-- does not.
 -- Assumes nothing.
 use Prim.Native.Nat.{ℕ, _<_}
-use mathlib.Core.Path.{_≡_, ap, _∙_}
+use mathlib.Core.Path.{_≡_, ap, sym, _∙_}
 use mathlib.Core.Bool.{true, false}
-use lib.IntN.{pos}
+use lib.IntN.{ℤ, pos}
 use lib.Dec.{eqb}
 use Rattle.laws.proofs.Flow.{first, second}
 use Rattle.error.specs.Numbers.{STOP}
@@ -13,12 +14,33 @@ use Rattle.record_thread.specs.Thread.{endWait}
 use Rattle.records.specs.declared.tables.Tables.{Tables}
 use Rattle.records.specs.declared.reply.Fields.the-variants.{OwnerField}
 use Rattle.records.specs.declared.reply.Reply.{Reply}
-use Rattle.records.specs.Reply.{reply}
+use Rattle.records.specs.Reply.{reply, answered}
 use Rattle.records.specs.Tables.{threadAt, putThread}
 use Rattle.model.specs.Exception.{raise, close}
-use Rattle.thread_move.specs.ThreadMove.{slot}
-use Rattle.thread_move.proofs.Moving.{read-at}
-use Rattle.on_raise.specs.OnRaise.{isOver}
+use Rattle.exception_over.specs.Over.{isOver}
+use Rattle.thread_move.specs.declared.Early.{Early}
+use Rattle.thread_move.specs.ThreadMove.{slot, moved}
+use Rattle.thread_move.proofs.Moving.{same, moving, stays, stays-showing, read-at}
+use Rattle.on_raise.specs.OnRaise.{decided, ended, undecided}
+
+pub early-stays : {r : Early} (t : Tables) (n : ℕ) {v : Thread} (c : ℤ) →
+    r ≡ decided v c → threadAt t (slot n) ≡ v → moved t n (r .done) ≡ answered t c
+early-stays t n c e h = stays t n c (ap (λ (x : Early). x .done) e) h
+
+pub early-stops : {r : Early} (t : Tables) (n : ℕ) {v : Thread} (c : ℤ) →
+    r ≡ ended v c → threadAt t (slot n) ≡ v → moved t n (r .done) ≡ reply t c (OwnerField 0)
+early-stops t n c e h = stays-showing t n c (OwnerField 0) (ap (λ (x : Early). x .done) e) h
+
+pub early-ends : {r : Early} (t : Tables) (n : ℕ) (w : Thread) (c : ℤ) →
+    r ≡ ended w c → n < 128 → moved t n (r .done) ≡ reply (putThread t n w) c (OwnerField 0)
+unfolding moved reply
+early-ends t n w c e h = rw (e, same n h)
+
+-- an open return says nothing of the call
+pub left-open : {r : Early} {v : Thread} {x y : Reply} → r ≡ undecided v → r .is_open ≡ false → x ≡ y
+left-open e o = let k : true ≡ false = sym (ap (λ (x : Early). x .is_open) e) ∙ o in cc
+
+pub ruleset settling = (moving, early-stays)
 
 -- other types raised while Dying, and a closing that ends the exception
 pub dying-stops : {x : Reply} (t : Tables) (n kind : ℕ) {v : Thread} → n < 128 → threadAt t (slot n) ≡ v →

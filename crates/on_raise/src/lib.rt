@@ -3,25 +3,63 @@
 ghost use mathlib.Core.Path.{_≡_};
 ghost use Rattle.model.specs.ThreadCalls.{finishThreadCall};
 ghost use Rattle.model.specs.ExceptionCalls.{raiseException, closeException};
-ghost use Rattle.model.specs.Exception.{overAtFirst};
 ghost use Rattle.thread_move.specs.ThreadMove.{Settles};
-ghost use Rattle.on_raise.specs.OnRaise.{isOver};
+ghost use Rattle.on_raise.specs.OnRaise.{decided, ended, undecided};
 use error::Refusal;
 use error::ZxError;
-use record_exception::Exception;
+use exception_over::is_over;
 use record_exception::ExceptionType;
-use record_exception::Place;
 use record_thread::FoundException;
 use record_thread::Thread;
 use record_thread::ThreadState;
+use records::reply::Fields;
 use records::tables::FoundThread;
 use routes::is_no_type;
 use routes::route_of;
 use thread_move::Early;
-use thread_move::decided;
-use thread_move::ended;
+use thread_move::Move;
 use thread_move::found;
-use thread_move::undecided;
+
+// Decided, with no field.
+fn decided(v: Thread, answer: i64) -> Early
+    ensures { λ r. ⌜ r ≡ decided v answer ⌝ }
+{
+    Early {
+        is_open: false,
+        done: Move {
+            answer: answer,
+            fields: Fields::NoFields,
+            thread: v,
+        },
+    }
+}
+
+// Decided, with the owner field 0.
+fn ended(v: Thread, answer: i64) -> Early
+    ensures { λ r. ⌜ r ≡ ended v answer ⌝ }
+{
+    Early {
+        is_open: false,
+        done: Move {
+            answer: answer,
+            fields: Fields::OwnerField(0),
+            thread: v,
+        },
+    }
+}
+
+fn undecided(v: Thread) -> Early
+    ensures { λ r. ⌜ r ≡ undecided v ⌝ }
+{
+    Early {
+        is_open: true,
+        done: Move {
+            answer: 0,
+            fields: Fields::NoFields,
+            thread: v,
+        },
+    }
+}
 
 // 0c: `CurrentThread` dropped. Open where it is not refused: the process may exit.
 pub fn finish(thread: u8, v: Thread) -> Early
@@ -62,32 +100,6 @@ pub fn handle_exception(thread: u8, v: Thread, kind: u16) -> Early
         return ended(v, ZxError::STOP);
     }
     undecided(v)
-}
-
-// ProcessStarting and ThreadExiting are over at their first closing.
-fn over_at_first(place: Place) -> bool
-    ensures { λ r. ⌜ r ≡ overAtFirst place ⌝ }
-{
-    match place {
-        Place::Debugger => false,
-        Place::OwnThread => false,
-        Place::OwnProcess => false,
-        Place::SecondChance => false,
-        Place::OfJob(_) => false,
-        Place::OfJobDebugger(_) => true,
-        Place::Exiting => true,
-    }
-}
-
-// Whether a closing ends the exception.
-pub fn is_over(e: Exception) -> bool
-    ensures { λ r. ⌜ r ≡ isOver e ⌝ }
-{
-    if e.handled {
-        return true;
-    }
-    let place = e.place;
-    over_at_first(place)
 }
 
 // 15: the handler lets the exception object go. Open where a next handler is tried.

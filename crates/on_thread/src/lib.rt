@@ -12,7 +12,6 @@ use records::tables::FoundThread;
 use thread_move::Move;
 use thread_move::answered;
 use thread_move::found;
-use thread_move::showing;
 
 // 09: `Thread::start`.
 pub fn start(thread: u8, v: Thread) -> Move
@@ -89,5 +88,9 @@ pub fn get_thread_info(thread: u8, v: Thread) -> Move
         level: waiting_level(waiting),
         suspends: w.suspends,
     };
-    showing(v, 0, fields)
+    Move {
+        answer: 0,
+        fields: fields,
+        thread: v,
+    }
 }

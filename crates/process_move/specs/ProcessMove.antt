@@ -1,9 +1,9 @@
 -- Calls on one process, over the records that they name alone: `Moves` says that a move is what the call comes to,
 -- whatever the rest of the tables is, `Settles` that it is so where the records decide the call.
 use Prim.Native.Nat.{ℕ, _%_}
-use mathlib.Core.Bool.{true, false}
+use mathlib.Core.Bool.{false}
 use mathlib.Core.Path.{_≡_}
-use lib.IntN.{ℤ, pos}
+use lib.IntN.{ℤ}
 use Rattle.laws.specs.Choice.{if_then_else_}
 use Rattle.job_policy.specs.declared.JobPolicy.{JobPolicy}
 use Rattle.record_job.specs.declared.Job.{Job}
@@ -42,12 +42,6 @@ Checks f p q fixed m =
     (t : Tables) → processAt t (slot p) ≡ q → fixedAt t (slot p) ≡ fixed → moved t p m ≡ f t
 
 -- ---- Where the records decide the call -------------------------------------------------------
-
-abbrev pub settled : Process → ℤ → Early
-settled q answer = record { is_open = false; done = move q answer }
-
-abbrev pub undecided : Process → Early
-undecided q = record { is_open = true; done = move q (pos 0) }
 
 -- the call f on process p, whose record is q, comes to what r has done, unless r is open
 abbrev pub Settles : (Tables → Reply) → ℕ → Process → Early → Type 0

@@ -1,7 +1,7 @@
 // process_move: what a call on one process comes to over the records that it names alone, a move, and the reply that the
 // move stands for. specs/ProcessMove.antt says when a move is what the call comes to.
 ghost use mathlib.Core.Path.{_≡_};
-ghost use Rattle.process_move.specs.ProcessMove.{slot, move, foundIn, moved, settled, undecided};
+ghost use Rattle.process_move.specs.ProcessMove.{slot, move, foundIn, moved};
 use record_process::Process;
 use records::reply::Fields;
 use records::reply::Reply;
@@ -55,24 +55,4 @@ pub fn moved(t: Tables, process: u8, m: Move) -> Reply
 {
     let fields = m.fields;
     Reply::with_fields(t.with_process(slot(process), m.process), m.answer, fields)
-}
-
-// Decided: an answer, and the process stays.
-pub fn decided(q: Process, answer: i64) -> Early
-    ensures { λ r. ⌜ r ≡ settled q answer ⌝ }
-{
-    Early {
-        is_open: false,
-        done: answered(q, answer),
-    }
-}
-
-// Not decided: what is done means nothing.
-pub fn left_open(q: Process) -> Early
-    ensures { λ r. ⌜ r ≡ undecided q ⌝ }
-{
-    Early {
-        is_open: true,
-        done: answered(q, 0),
-    }
 }

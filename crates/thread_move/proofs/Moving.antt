@@ -2,8 +2,8 @@
 --     stays, stays-showing     the thread stays: the tables are as they were
 --     stores                   the thread is stored where it was
 --     looked-up                the record as the tables have it
+--     under                    two calls with the same first guard
 --     whole                    a call over the tables, by way of the record that they have
--- `search settling` closes a return that decides the call, `left-open` one that does not.
 -- Assumes nothing.
 use Prim.Native.Nat.{ℕ, _%_, _<_, _≤_}
 use mathlib.Core.Path.{_≡_, refl, ap, sym, _∙_}
@@ -13,22 +13,21 @@ use lib.IntN.{ℤ, pos}
 use lib.ListN.{set, getD}
 use lib.Seq.{set-getD}
 use Rattle.laws.specs.Choice.{if_then_else_}
+use Rattle.laws.specs.Guarded.{Guarded, guard, _>>_, settle}
 use Rattle.record_thread.specs.declared.Thread.{Thread}
 use Rattle.record_thread.specs.Thread.{noThread}
 use Rattle.records.specs.declared.tables.Tables.{Tables}
 use Rattle.records.specs.declared.tables.FoundThread.{FoundThread}
 use Rattle.records.specs.declared.reply.Fields.{Fields}
-use Rattle.records.specs.declared.reply.Fields.the-variants.{OwnerField}
 use Rattle.records.specs.declared.reply.Reply.{Reply}
 use Rattle.records.specs.Reply.{reply, answered}
 use Rattle.records.specs.Tables.{threadAt, putThread, foundThread, withThreads}
+use Rattle.model.specs.Replies.{call}
 use Rattle.model.proofs.Answering.{answering}
 use Rattle.thread_move.specs.declared.Move.{Move}
-use Rattle.thread_move.specs.declared.Early.{Early}
 use Rattle.thread_move.specs.ThreadMove.{slot, move, shows, foundIn, moved, Moves}
-use Rattle.thread_move.specs.ThreadMove.{decided, ended, undecided}
 
-same : (n : ℕ) → n < 128 → slot n ≡ n
+pub same : (n : ℕ) → n < 128 → slot n ≡ n
 same n h = omega arith
 
 pub kept : (t : Tables) (n : ℕ) {v : Thread} → threadAt t n ≡ v → putThread t n v ≡ t
@@ -55,33 +54,17 @@ pub looked-up : {g : FoundThread} (t : Tables) (n : ℕ) {v : Thread} →
 unfolding foundIn foundThread
 looked-up t n e h p = e ∙ rw (← p, same n h)
 
+pub under : (t : Tables) (c : ℤ) (b : Bool) (k l : Guarded Reply) → call t k ≡ call t l → call t (guard c b >> k) ≡ call t (guard c b >> l)
+unfolding settle
+under t c true k l e = refl
+under t c false k l e = e
+
 -- a call over the tables, from the call over the record that they have
 pub whole : {x : Reply} (f : Tables → Reply) (t : Tables) (n : ℕ) {k : ℕ} {v : Thread} (m : Move) →
     x ≡ moved t n m → Moves f n v m → v ≡ threadAt t k → k ≡ slot n → x ≡ f t
 whole f t n m p q r s = p ∙ q t (sym (r ∙ ap (threadAt t) s))
 
--- ---- A call that the record alone may not decide ---------------------------------------------
-
-pub early-stays : {r : Early} (t : Tables) (n : ℕ) {v : Thread} (c : ℤ) →
-    r ≡ decided v c → threadAt t (slot n) ≡ v → moved t n (r .done) ≡ answered t c
-early-stays t n c e h = stays t n c (ap (λ (x : Early). x .done) e) h
-
-pub early-stops : {r : Early} (t : Tables) (n : ℕ) {v : Thread} (c : ℤ) →
-    r ≡ ended v c → threadAt t (slot n) ≡ v → moved t n (r .done) ≡ reply t c (OwnerField 0)
-early-stops t n c e h = stays-showing t n c (OwnerField 0) (ap (λ (x : Early). x .done) e) h
-
-pub early-ends : {r : Early} (t : Tables) (n : ℕ) (w : Thread) (c : ℤ) →
-    r ≡ ended w c → n < 128 → moved t n (r .done) ≡ reply (putThread t n w) c (OwnerField 0)
-unfolding moved reply
-early-ends t n w c e h = rw (e, same n h)
-
--- an open return says nothing of the call
-pub left-open : {r : Early} {v : Thread} {x y : Reply} → r ≡ undecided v → r .is_open ≡ false → x ≡ y
-left-open e o = let k : true ≡ false = sym (ap (λ (x : Early). x .is_open) e) ∙ o in cc
-
 pub read-at : (t : Tables) (n : ℕ) {v : Thread} → n < 128 → threadAt t (slot n) ≡ v → threadAt t n ≡ v
 read-at t n l h = rw (← same n l) h
 
 pub ruleset moving = (answering, stays, stays-showing, stores, looked-up)
-
-pub ruleset settling = (moving, early-stays)

@@ -2,15 +2,15 @@
 -- the tables is.
 use Prim.Native.Nat.{ℕ, _%_}
 use mathlib.Core.Path.{_≡_}
-use mathlib.Core.Bool.{true, false}
-use lib.IntN.{ℤ, pos}
+use mathlib.Core.Bool.{false}
+use lib.IntN.{ℤ}
 use Rattle.laws.specs.Choice.{if_then_else_}
 use Rattle.record_thread.specs.declared.Thread.{Thread}
 use Rattle.records.specs.declared.tables.Tables.{Tables}
 use Rattle.records.specs.declared.tables.FoundThread.{FoundThread}
 use Rattle.records.specs.declared.tables.FoundThread.the-variants.{NoThread, OldThread}
 use Rattle.records.specs.declared.reply.Fields.{Fields}
-use Rattle.records.specs.declared.reply.Fields.the-variants.{NoFields, OwnerField}
+use Rattle.records.specs.declared.reply.Fields.the-variants.{NoFields}
 use Rattle.records.specs.declared.reply.Reply.{Reply}
 use Rattle.records.specs.Reply.{reply}
 use Rattle.records.specs.Tables.{threadAt, putThread}
@@ -40,16 +40,6 @@ abbrev pub Moves : (Tables → Reply) → ℕ → Thread → Move → Type 0
 Moves f n v m = (t : Tables) → threadAt t (slot n) ≡ v → moved t n m ≡ f t
 
 -- ---- A call that the record alone may not decide ---------------------------------------------
-
--- decided, with no field; with the owner field 0; not decided
-abbrev pub decided : Thread → ℤ → Early
-decided v answer = record { is_open = false; done = move v answer }
-
-abbrev pub ended : Thread → ℤ → Early
-ended v answer = record { is_open = false; done = shows v answer (OwnerField 0) }
-
-abbrev pub undecided : Thread → Early
-undecided v = record { is_open = true; done = move v (pos 0) }
 
 -- where e is not open, the call f comes to its move
 abbrev pub Settles : (Tables → Reply) → ℕ → Thread → Early → Type 0

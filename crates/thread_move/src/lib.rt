@@ -1,8 +1,7 @@
 // thread_move: what a call on one thread comes to, over its record alone, so that a caller with the tables can work in
 // place. specs/ThreadMove.antt says what a move means.
 ghost use mathlib.Core.Path.{_≡_};
-ghost use Rattle.thread_move.specs.ThreadMove.{slot, move, shows, foundIn, moved, decided};
-ghost use Rattle.thread_move.specs.ThreadMove.{ended, undecided};
+ghost use Rattle.thread_move.specs.ThreadMove.{slot, move, foundIn, moved};
 use record_thread::Thread;
 use records::reply::Fields;
 use records::reply::Reply;
@@ -43,17 +42,6 @@ pub fn answered(v: Thread, answer: i64) -> Move
     }
 }
 
-// An answer with its fields.
-pub fn showing(v: Thread, answer: i64, fields: Fields) -> Move
-    ensures { λ r. ⌜ r ≡ shows v answer fields ⌝ }
-{
-    Move {
-        answer: answer,
-        fields: fields,
-        thread: v,
-    }
-}
-
 // A made thread.
 pub fn found(v: Thread) -> FoundThread
     ensures { λ r. ⌜ r ≡ foundIn v ⌝ }
@@ -64,51 +52,8 @@ pub fn found(v: Thread) -> FoundThread
     FoundThread::NoThread
 }
 
-// -- Calls that the record alone may not decide ------------------------------------------------
-
 // Open: the record alone does not decide the call. If not, what it comes to.
 pub struct Early {
     pub is_open: bool,
     pub done: Move,
-}
-
-// Decided, with no field.
-pub fn decided(v: Thread, answer: i64) -> Early
-    ensures { λ r. ⌜ r ≡ decided v answer ⌝ }
-{
-    Early {
-        is_open: false,
-        done: Move {
-            answer: answer,
-            fields: Fields::NoFields,
-            thread: v,
-        },
-    }
-}
-
-// Decided, with the owner field 0.
-pub fn ended(v: Thread, answer: i64) -> Early
-    ensures { λ r. ⌜ r ≡ ended v answer ⌝ }
-{
-    Early {
-        is_open: false,
-        done: Move {
-            answer: answer,
-            fields: Fields::OwnerField(0),
-            thread: v,
-        },
-    }
-}
-
-pub fn undecided(v: Thread) -> Early
-    ensures { λ r. ⌜ r ≡ undecided v ⌝ }
-{
-    Early {
-        is_open: true,
-        done: Move {
-            answer: 0,
-            fields: Fields::NoFields,
-            thread: v,
-        },
-    }
 }

@@ -1,6 +1,5 @@
 use Rattle.model.specs.ExceptionCalls.{closeException}
-use Rattle.thread_move.proofs.Moving.{settling, early-ends, left-open}
-use Rattle.on_raise.proofs.Raising.{closing-ends}
+use Rattle.on_raise.proofs.Raising.{settling, early-ends, left-open, closing-ends}
 use borrow.Author.Needs.{needs}
 use Rattle.on_raise.proofs.close.Statement.{statement}
 use Rattle.on_raise.proofs.close.Tie as tie

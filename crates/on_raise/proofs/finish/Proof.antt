@@ -1,5 +1,5 @@
 use Rattle.model.specs.ThreadCalls.{finishThreadCall}
-use Rattle.thread_move.proofs.Moving.{settling, left-open}
+use Rattle.on_raise.proofs.Raising.{settling, left-open}
 use borrow.Author.Needs.{needs}
 use Rattle.on_raise.proofs.finish.Statement.{statement}
 use Rattle.on_raise.proofs.finish.Tie as tie

@@ -1,6 +1,5 @@
 use Rattle.model.specs.ExceptionCalls.{raiseException}
-use Rattle.thread_move.proofs.Moving.{settling, early-stops, left-open}
-use Rattle.on_raise.proofs.Raising.{dying-stops}
+use Rattle.on_raise.proofs.Raising.{settling, early-stops, left-open, dying-stops}
 use borrow.Author.Needs.{needs}
 use Rattle.on_raise.proofs.handle_exception.Statement.{statement}
 use Rattle.on_raise.proofs.handle_exception.Tie as tie

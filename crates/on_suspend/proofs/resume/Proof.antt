@@ -1,4 +1,4 @@
-use Rattle.thread_move.proofs.One.{resumeOne, resume-is}
+use Rattle.on_suspend.proofs.One.{resumeOne, resume-is}
 use Rattle.thread_move.proofs.Moving.{moving}
 use borrow.Author.Needs.{needs}
 use Rattle.on_suspend.proofs.resume.Statement.{statement}

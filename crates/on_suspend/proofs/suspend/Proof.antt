@@ -1,4 +1,4 @@
-use Rattle.thread_move.proofs.One.{suspendOne, suspend-is}
+use Rattle.on_suspend.proofs.One.{suspendOne, suspend-is}
 use Rattle.thread_move.proofs.Moving.{moving}
 use borrow.Author.Needs.{needs}
 use Rattle.on_suspend.proofs.suspend.Statement.{statement}

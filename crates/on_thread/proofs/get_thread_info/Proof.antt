@@ -18,7 +18,5 @@ get-thread-info-spec =
     (λ c t h. search moving depth 20)
     (λ c κs. search needs)
     (λ c κs. search needs)
-    (λ c κs. search needs)
     (λ c t h.
-    let e = simp (c .before .waiting-level .ensures, c .before .before .state .ensures) at (c .showing .ensures) in
-    search (moving, e) depth 20))
+    rw (c .waiting-level .ensures, c .before .state .ensures) (search moving depth 20)))
