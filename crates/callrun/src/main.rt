@@ -1,24 +1,13 @@
 // callrun: reads commands from standard input to its end and writes a line for each. What is written for which bytes is
 // `recorder`'s; here the bytes are moved, none lost and none changed. A read or a write that fails ends the program with a
 // message.
-ghost use Prim.Native.Nat.{_-_, _≤_};
+ghost use Prim.Native.Nat.{_≤_};
 ghost use mathlib.Core.Path.{_≡_};
-ghost use lib.ListN.{length, take, drop};
-ghost use Rattle.io.specs.Counts.{Counts};
-ghost use Rattle.recorder.specs.Recorder.{fed};
-ghost use Rattle.callrun.specs.Callrun.{Advances};
+ghost use lib.ListN.{length, take};
+use buffer::Progress;
 use libc::STDIN_FILENO;
 use libc::STDOUT_FILENO;
-use recorder::State;
-
-// Where the program stands: `have` bytes are at the front of the buffer and not yet used, and the last call of the
-// recorder left `written` bytes of lines.
-struct Progress {
-    state: State,
-    have: usize,
-    written: usize,
-    going: bool,
-}
+use stream_state::State;
 
 // Hands lines to standard output.
 fn write_out(lines: &[u8]) -> bool {
@@ -38,41 +27,6 @@ fn more(buf: &mut [u8], have: usize) -> isize
     libc::read(STDIN_FILENO, room)
 }
 
-// Moves the last `n` of the first `have` bytes to the front.
-fn shift(buf: &mut [u8], have: usize, n: usize)
-    requires { ⌜ (n ≤ have) × (have ≤ length (now buf)) ⌝ }
-    ensures { λ r. ⌜ take n (now (buf .exit)) ≡ take n (drop (have - n) (now (buf .entry))) ⌝ }
-{
-    let from = have - n;
-    let mut i: usize = 0;
-    while i < n {
-        let b = buf[from + i];
-        buf[i] = b;
-        i += 1;
-    }
-}
-
-// Calls the recorder on what is there. Its lines are at the front of `out`, and what it did not use at the front of `buf`.
-fn advance(progress: Progress, buf: &mut [u8], out: &mut [u8]) -> Progress
-    requires { ⌜ progress .have ≤ length (now buf) ⌝ }
-    ensures { λ r. ⌜ Advances (fed (length (now (out .entry))) (progress .state) (take (progress .have) (now (buf .entry)))) (progress .have) (now (buf .entry)) r (now (buf .exit)) (now (out .exit)) ⌝ }
-    ensures { λ r. ⌜ Counts (r .written) (now (out .exit)) ⌝ }
-    ensures { λ r. ⌜ r .have ≤ length (now (buf .exit)) ⌝ }
-{
-    let state = progress.state;
-    let have = progress.have;
-    let r = recorder::feed(state, &buf[..have], out);
-    let left = have - r.consumed;
-    shift(buf, have, left);
-    let after = r.state;
-    Progress {
-        state: after,
-        have: left,
-        written: r.written,
-        going: !r.finished,
-    }
-}
-
 fn stopped(state: State) -> Progress
     ensures { λ r. ⌜ r .have ≡ 0 ⌝ }
 {
@@ -89,7 +43,7 @@ fn perform(progress: Progress, buf: &mut [u8], out: &mut [u8]) -> Progress
     requires { ⌜ progress .have ≤ length (now buf) ⌝ }
     ensures { λ r. ⌜ r .have ≤ length (now (buf .exit)) ⌝ }
 {
-    let r = advance(progress, buf, out);
+    let r = buffer::advance(progress, buf, out);
     let written = r.written;
     if write_out(&out[..written]) {
         return r;
@@ -100,7 +54,7 @@ fn perform(progress: Progress, buf: &mut [u8], out: &mut [u8]) -> Progress
 
 // The end of the input.
 fn finish(state: State, left: &[u8], out: &mut [u8]) {
-    let n = recorder::close(state, left, out);
+    let n = stream_state::close(state, left, out);
     write_out(&out[..n]);
 }
 
@@ -136,7 +90,7 @@ fn turn(progress: Progress, buf: &mut [u8], out: &mut [u8]) -> Progress
 // A proved loop has to end, and nothing says that the input does: it counts down from a number that no run uses up.
 fn run(buf: &mut [u8], out: &mut [u8]) {
     let mut progress = Progress {
-        state: recorder::fresh(),
+        state: stream_state::fresh(),
         have: 0,
         written: 0,
         going: true,

@@ -32,9 +32,10 @@ use Rattle.on_pair.specs.declared.Both as ProcessBoth
 use Rattle.job_move.specs.JobMove as job
 use Rattle.job_move.specs.declared.Move as JobMove
 use Rattle.job_move.specs.declared.Early as JobEarly
-use Rattle.deciding.specs.declared.Slots.{Slots}
+use Rattle.slots.specs.declared.Slots.{Slots}
 use Rattle.deciding.specs.declared.Decided.{Decided}
-use Rattle.deciding.specs.Deciding.{slotsOf, slotsBy, slotsIn, undecided, refused}
+use Rattle.slots.specs.Slots.{slotsOf, slotsBy, slotsIn}
+use Rattle.deciding.specs.Deciding.{undecided, refused}
 use Rattle.deciding.specs.Deciding.{byThread, byProcess, byJob, byBoth}
 use Rattle.deciding.specs.Deciding.{earlyThread, earlyProcess, earlyJob, storedAt}
 use Rattle.deciding.specs.Deciding.{Named, Holds, Stands, Decides}

@@ -1,10 +1,10 @@
--- A command decided from the records that it names: where they are, and what a decision stands for.
-use Prim.Native.Nat.{ℕ, _%_}
+-- A command decided from the records that it names, and what a decision stands for.
+use Prim.Native.Nat.{ℕ}
 use mathlib.Core.Path.{_≡_}
 use mathlib.Core.Bool.{true, false}
 use mathlib.Core.List.{List}
 use lib.IntN.{ℤ, pos}
-use Rattle.laws.specs.Choice.{_=?_, if_then_else_}
+use Rattle.laws.specs.Choice.{if_then_else_}
 use Rattle.job_policy.specs.declared.JobPolicy.{JobPolicy}
 use Rattle.job_policy.specs.Policy.{noPolicy}
 use Rattle.record_job.specs.declared.Job.{Job}
@@ -16,7 +16,6 @@ use Rattle.records.specs.declared.reply.Reply.{Reply}
 use Rattle.records.specs.Reply.{replyWith}
 use Rattle.records.specs.Tables.{jobAt, processAt, threadAt, ownAt, inheritedAt, fixedAt}
 use Rattle.records.specs.Tables.{putJob, putProcess, putThread}
-use Rattle.commands.specs.Commands.{byte}
 use Rattle.model.specs.Step.{step}
 use Rattle.calls.specs.Calls.{callIn}
 use Rattle.thread_move.specs.declared.Move as OnThread
@@ -26,28 +25,9 @@ use Rattle.process_move.specs.declared.Early as EarlyProcess
 use Rattle.on_pair.specs.declared.Both as Both
 use Rattle.job_move.specs.declared.Move as OnJob
 use Rattle.job_move.specs.declared.Early as EarlyJob
-use Rattle.deciding.specs.declared.Slots.{Slots}
+use Rattle.slots.specs.declared.Slots.{Slots}
+use Rattle.slots.specs.Slots.{slotsOf, slotsIn}
 use Rattle.deciding.specs.declared.Decided.{Decided}
-
--- ---- Names ---------------------------------------------------------------------------------
-
-abbrev pub slotsOf : ℕ → ℕ → ℕ → Slots
-slotsOf n p j = record { thread = n % 128; process = p % 64; job = j % 32 }
-
-unfoldable pub slotsBy : ℕ → ℕ → ℕ → Slots
-slotsBy code a b =
-    if code =? 0x03 then slotsOf a b a else
-    if code =? 0x04 then slotsOf b a a else
-    if code =? 0x07 then slotsOf a a b else
-    if code =? 0x08 then slotsOf b a a else
-    if code =? 0x12 then slotsOf b b b else
-    if code =? 0x13 then slotsOf b b b else
-    if code =? 0x1e then slotsOf b b b else
-    if code =? 0x1f then slotsOf b b b else
-    slotsOf a a a
-
-unfoldable pub slotsIn : List ℕ → Slots
-slotsIn bs = slotsBy (byte bs 0) (byte bs 1) (byte bs 2)
 
 -- the records at the slots, with the policies beside them
 pub record Named : Type 0 where

@@ -3,8 +3,8 @@
 use libc::STDERR_FILENO;
 use libc::STDIN_FILENO;
 use libc::STDOUT_FILENO;
-use recorder::State;
 use records::tables::Tables;
+use stream_state::State;
 ghost use Prim.Native.Nat.{_≤_};
 ghost use lib.ListN.{length};
 
@@ -73,10 +73,10 @@ fn feed_list(state: State, list: &[u8], out: &mut [u8]) -> Ran
 
 // The end of a list: the line of a command that was cut.
 fn close(state: State, left: &[u8], out: &mut [u8]) -> bool {
-    if out.len() < recorder::LINE {
+    if out.len() < stream_state::LINE {
         return false;
     }
-    let n = recorder::close(state, left, out);
+    let n = stream_state::close(state, left, out);
     write_out(&out[..n])
 }
 
@@ -91,7 +91,7 @@ fn write_tables(t: Tables, out: &mut [u8]) -> bool {
 
 // Runs a list from a fresh root; whether all was written.
 fn run_list(list: &[u8], out: &mut [u8]) -> bool {
-    let r = feed_list(recorder::fresh(), list, out);
+    let r = feed_list(stream_state::fresh(), list, out);
     let s = r.state;
     let left = r.left;
     if !r.going {

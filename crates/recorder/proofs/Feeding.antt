@@ -25,9 +25,10 @@ use Rattle.commands.specs.Commands.{nextOf}
 use Rattle.commands.proofs.Stays.{whole-bounds}
 use Rattle.calls.specs.Calls.{callIn}
 use Rattle.lines.specs.Line.{lineOf, Put}
-use Rattle.recorder.specs.declared.State.{State}
+use Rattle.stream_state.specs.declared.State.{State}
 use Rattle.recorder.specs.declared.Fed.{Fed}
-use Rattle.recorder.specs.Recorder.{nextNumber, stateOf, replyTo, after, lineFor, line, stopAt}
+use Rattle.stream_state.specs.State.{nextNumber, stateOf, stopAt}
+use Rattle.recorder.specs.Recorder.{replyTo, after, lineFor, line}
 use Rattle.recorder.specs.Recorder.{Part, part, ahead, fed, fedStep, Feeds}
 use Rattle.recorder.proofs.Parts.{fed-is}
 

@@ -13,8 +13,9 @@ use Rattle.commands.specs.declared.Next.{Next}
 use Rattle.commands.specs.declared.Next.the-variants.{Wait, Stop, Whole}
 use Rattle.commands.specs.Commands.{nextOf}
 use Rattle.commands.proofs.Stays.{left-less}
-use Rattle.recorder.specs.declared.State.{State}
-use Rattle.recorder.specs.Recorder.{onNext, after, line, stopAt, Part, part, ahead}
+use Rattle.stream_state.specs.declared.State.{State}
+use Rattle.stream_state.specs.State.{stopAt}
+use Rattle.recorder.specs.Recorder.{onNext, after, line, Part, part, ahead}
 use Rattle.recorder.specs.Recorder.{fedStep, fedWithin, fed}
 
 pub on-same : {A : Type 0} (x : Next) (a b : A) (K L : ℕ → A) → ((n : ℕ) → x ≡ Whole n → K n ≡ L n) →

@@ -19,7 +19,7 @@ use Rattle.records.specs.Tables.{jobAt, processAt, threadAt, ownAt, inheritedAt
 use Rattle.records.specs.Tables.{Sized}
 use Rattle.change.specs.declared.Change.{Change}
 use Rattle.change.specs.Change as defs
-use Rattle.deciding.specs.declared.Slots.{Slots}
+use Rattle.slots.specs.declared.Slots.{Slots}
 use Rattle.deciding.specs.declared.Decided.{Decided}
 use Rattle.deciding.specs.Deciding.{Named, named, Holds, storing}
 

@@ -6,30 +6,20 @@ use mathlib.Core.Path.{_≡_}
 use mathlib.Core.Bool.{Bool, true, false}
 use mathlib.Core.List.{List, [], _∷_, _++_}
 use lib.ListN.{length, take, drop}
-use Rattle.laws.specs.Choice.{_<?_, _=?_, if_then_else_}
+use Rattle.laws.specs.Choice.{_<?_, if_then_else_}
 use Rattle.records.specs.declared.tables.Tables.{Tables}
 use Rattle.records.specs.declared.reply.Reply.{Reply}
-use Rattle.records.specs.Tables.{freshTables}
 use Rattle.model.specs.Step.{step}
 use Rattle.commands.specs.declared.Next.{Next}
 use Rattle.commands.specs.declared.Next.the-variants.{Wait, Stop, Whole}
 use Rattle.commands.specs.Commands.{nextOf}
 use Rattle.calls.specs.Calls.{callIn}
-use Rattle.lines.specs.Line.{lineOf, stopLine}
-use Rattle.recorder.specs.declared.State.{State}
+use Rattle.lines.specs.Line.{lineOf}
+use Rattle.stream_state.specs.declared.State.{State}
+use Rattle.stream_state.specs.State.{nextNumber, stateOf, stopAt}
 use Rattle.recorder.specs.declared.Fed.{Fed}
 
 -- ---- A command and its line -------------------------------------------------------------------
-
--- 2 ^ 64 - 1 is the last number
-unfoldable pub nextNumber : ℕ → ℕ
-nextNumber n = if n <? 18446744073709551615 then n + 1 else n
-
-abbrev pub stateOf : Tables → ℕ → State
-stateOf t n = record { tables = t; number = n }
-
-abbrev pub freshState : State
-freshState = stateOf freshTables 0
 
 -- the command at the front has n bytes: its reply, the state after it, its line
 abbrev pub replyTo : State → ℕ → List ℕ → Reply
@@ -43,13 +33,6 @@ lineFor s r = lineOf (nextNumber (s .number)) (r .answer) (r .fields) (r .policy
 
 abbrev pub line : State → ℕ → List ℕ → List ℕ
 line s n bs = lineFor s (replyTo s n bs)
-
-abbrev pub stopAt : State → List ℕ
-stopAt s = stopLine (nextNumber (s .number))
-
--- what is written at the end of the input, where bs are left
-unfoldable pub closing : State → List ℕ → List ℕ
-closing s bs = if length bs =? 0 then [] else stopAt s
 
 abbrev pub onNext : {A : Type 0} → Next → A → A → (ℕ → A) → A
 onNext Wait w s f = w
@@ -96,7 +79,3 @@ pub record Feeds (p : Part) (r : Fed) (out : List ℕ) : Type 0 where
   pub finished : r .finished ≡ p .finished
   pub written : r .written ≡ length (p .lines)
   pub lines : take (r .written) out ≡ p .lines
-
--- what a call of `close` writes
-unfoldable pub closedWithin : ℕ → State → List ℕ → List ℕ
-closedWithin room s bs = if room <? 128 then [] else closing s bs

@@ -4,18 +4,12 @@ ghost use mathlib.Core.Path.{_≡_};
 ghost use Prim.Native.Nat.{_≤_};
 ghost use lib.ListN.{length};
 ghost use Rattle.io.specs.Counts.{Counts};
-ghost use Rattle.lines.specs.Line.{Put};
-ghost use Rattle.recorder.specs.Recorder.{nextNumber, freshState, fedAt, fed};
-ghost use Rattle.recorder.specs.Recorder.{Feeds, closedWithin};
+ghost use Rattle.recorder.specs.Recorder.{fedAt, fed, Feeds};
 use commands::Next;
 use job_policy::JobPolicy;
 use records::tables::Tables;
-
-// Where a stream stands: the tables, and the number of the last line.
-pub struct State {
-    pub tables: Tables,
-    pub number: u64,
-}
+use stream_state::LINE;
+use stream_state::State;
 
 // How far a call of `feed` came.
 pub struct Fed {
@@ -24,29 +18,6 @@ pub struct Fed {
     pub written: usize,
     // Whether the stream has ended at what is no command.
     pub finished: bool,
-}
-
-// No line is longer.
-pub const LINE: usize = 128;
-
-// A fresh root, and no line yet.
-pub fn fresh() -> State
-    ensures { λ r. ⌜ r ≡ freshState ⌝ }
-{
-    State {
-        tables: Tables::fresh(),
-        number: 0,
-    }
-}
-
-// Lines are numbered from 1. No run reaches 2^64 - 1, the last number.
-fn next_number(n: u64) -> u64
-    ensures { λ r. ⌜ r ≡ nextNumber n ⌝ }
-{
-    if n < u64::MAX {
-        return n + 1;
-    }
-    n
 }
 
 fn fed_at(tables: Tables, number: u64, consumed: usize, written: usize, finished: bool) -> Fed
@@ -80,12 +51,12 @@ pub fn feed(state: State, input: &[u8], out: &mut [u8]) -> Fed
                 return fed_at(t, number, at, written, false);
             }
             Next::Stop => {
-                written = lines::put_stop(out, written, next_number(number));
+                written = lines::put_stop(out, written, stream_state::next_number(number));
                 return fed_at(t, number, at, written, true);
             }
             Next::Whole(n) => {
                 let command = &rest[..n];
-                let slots = deciding::slots_of(command);
+                let slots = slots::slots_of(command);
                 let i = slots.thread;
                 let p = slots.process;
                 let j = slots.job;
@@ -98,7 +69,7 @@ pub fn feed(state: State, input: &[u8], out: &mut [u8]) -> Fed
                     t.inherited[j],
                     t.fixed[p],
                 );
-                number = next_number(number);
+                number = stream_state::next_number(number);
                 at += n;
                 if d.decided {
                     let fields = d.fields;
@@ -156,18 +127,4 @@ pub fn feed(state: State, input: &[u8], out: &mut [u8]) -> Fed
             }
         }
     }
-}
-
-// At the end of the input: a command that was cut stops. A buffer with no room for a line gets nothing.
-pub fn close(state: State, left: &[u8], out: &mut [u8]) -> usize
-    ensures { λ r. ⌜ Put (now (out .entry)) (now (out .exit)) 0 r (closedWithin (length (now (out .entry))) state (now (left .entry))) ⌝ }
-    ensures { λ r. ⌜ Counts r (now (out .exit)) ⌝ }
-{
-    if out.len() < LINE {
-        return 0;
-    }
-    if left.len() == 0 {
-        return 0;
-    }
-    lines::put_stop(out, 0, next_number(state.number))
 }

@@ -5,7 +5,7 @@ ghost use mathlib.Core.Path.{_≡_};
 ghost use lib.ListN.{length};
 use crate::pack;
 use crate::pack::Lines;
-use recorder::State;
+use stream_state::State;
 
 // So many bytes of calls are read at once. Long lists are so cut at every place of a call, and the lines of a part can
 // be more than `out` has room for.
@@ -109,7 +109,7 @@ fn finish(p: Progress, buf: &mut [u8], out: &mut [u8], want: &mut [u8]) -> Lines
         return lines;
     }
     let have = pack::least(p.have, buf.len());
-    let n = recorder::close(state, &buf[..have], out);
+    let n = stream_state::close(state, &buf[..have], out);
     let last = pack::compare(lines, &out[..n], want);
     pack::ended(last, last.stop == (have > 0))
 }
@@ -123,7 +123,7 @@ fn run(
     out: &mut [u8],
     want: &mut [u8],
 ) -> Progress {
-    let mut p = stands(recorder::fresh(), recorded, 0, false);
+    let mut p = stands(stream_state::fresh(), recorded, 0, false);
     let mut unread = length;
     while unread > 0 {
         let part = pack::least(unread, PART);

@@ -12,8 +12,9 @@ use Rattle.commands.specs.declared.Next.the-variants.{Wait, Stop, Whole}
 use Rattle.commands.specs.Commands.{nextOf}
 use Rattle.commands.proofs.Stays.{left-less}
 use Rattle.calls.specs.Calls.{callIn}
-use Rattle.recorder.specs.declared.State.{State}
-use Rattle.recorder.specs.Recorder.{onNext, after, line, stopAt, closing}
+use Rattle.stream_state.specs.declared.State.{State}
+use Rattle.stream_state.specs.State.{stopAt, closing}
+use Rattle.recorder.specs.Recorder.{onNext, after, line}
 use Rattle.stream.specs.Stream.{transcriptWithin, transcript, callsWithin, callsIn}
 use Rattle.stream.specs.Stream.{leftWithin, leftIn, linesFrom}
 

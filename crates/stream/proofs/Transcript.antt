@@ -9,8 +9,9 @@ use lib.ListN.{length, drop}
 use Rattle.commands.specs.declared.Next.the-variants.{Whole}
 use Rattle.commands.specs.Commands.{nextOf}
 use Rattle.commands.proofs.Stays.{left-less}
-use Rattle.recorder.specs.declared.State.{State}
-use Rattle.recorder.specs.Recorder.{after, line, stopAt, closing}
+use Rattle.stream_state.specs.declared.State.{State}
+use Rattle.stream_state.specs.State.{stopAt, closing}
+use Rattle.recorder.specs.Recorder.{after, line}
 use Rattle.recorder.proofs.Parts.{on-same}
 use Rattle.stream.specs.Stream.{transcriptStep, transcriptWithin, transcript}
 

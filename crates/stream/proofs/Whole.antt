@@ -24,8 +24,9 @@ use Rattle.commands.specs.declared.Next.the-variants.{Wait, Stop, Whole}
 use Rattle.commands.specs.Commands.{nextOf}
 use Rattle.commands.proofs.Stays.{whole-bounds, left-less, front-stays}
 use Rattle.calls.specs.Calls.{callIn}
-use Rattle.recorder.specs.declared.State.{State}
-use Rattle.recorder.specs.Recorder.{freshState, replyTo, after, line, lineFor, stopAt, closing}
+use Rattle.stream_state.specs.declared.State.{State}
+use Rattle.stream_state.specs.State.{freshState, stopAt, closing}
+use Rattle.recorder.specs.Recorder.{replyTo, after, line, lineFor}
 use Rattle.recorder.specs.Recorder.{onNext, Part, part, ahead, fedStep, fedWithin, fed}
 use Rattle.stream.specs.Stream.{transcriptStep, transcript, Event, read, call, bytesOf}
 use Rattle.stream.specs.Stream.{progress, Drained, Stream}

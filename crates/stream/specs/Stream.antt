@@ -12,8 +12,9 @@ use Rattle.commands.specs.declared.Next.the-variants.{Wait}
 use Rattle.commands.specs.Commands.{nextOf}
 use Rattle.calls.specs.Calls.{callIn}
 use Rattle.lines.specs.Line.{lineOf, stopLine}
-use Rattle.recorder.specs.declared.State.{State}
-use Rattle.recorder.specs.Recorder.{nextNumber, freshState, after, line, stopAt, closing, onNext, fed}
+use Rattle.stream_state.specs.declared.State.{State}
+use Rattle.stream_state.specs.State.{nextNumber, freshState, stopAt, closing}
+use Rattle.recorder.specs.Recorder.{after, line, onNext, fed}
 
 -- ---- The whole stream ----------------------------------------------------------------------
 

@@ -2,7 +2,7 @@ use Rattle.laws.specs.Choice.{if_then_else_}
 use Rattle.model.specs.Step.{step}
 use Rattle.model.specs.JobCalls.{exitProcessCall, killProcess}
 use Rattle.calls.specs.Calls.{callBy}
-use Rattle.deciding.specs.Deciding.{slotsBy}
+use Rattle.slots.specs.Slots.{slotsBy}
 use Rattle.deciding.proofs.Arms.{at-code, about-thread, about-process, about-job}
 use Rattle.deciding.proofs.Arms.{about-both, if-thread, if-process, if-job, left-open}
 use borrow.Author.Needs.{needs}

@@ -11,11 +11,12 @@ use borrow.Author.Needs.{needs}
 use mir.Syntax.{w64}
 use mir.Val.{SFits}
 use mir.Facts.{toZ-ofZ}
-use Rattle.recorder.specs.declared.State.{State}
-use Rattle.recorder.specs.Recorder.{nextNumber, stateOf, fed, ahead}
+use Rattle.stream_state.specs.declared.State.{State}
+use Rattle.stream_state.specs.State.{nextNumber, stateOf}
+use Rattle.recorder.specs.Recorder.{fed, ahead}
 use Rattle.laws.proofs.Loops.{length-mapped}
 use Rattle.records.specs.Tables.{Sized}
-use Rattle.deciding.specs.declared.Slots.{Slots}
+use Rattle.slots.specs.declared.Slots.{Slots}
 use Rattle.deciding.specs.Deciding.{storedAt}
 use Rattle.records.specs.Reply.{reply}
 use Rattle.records.specs.Tables.{putJob, putOwn, putInherited, putProcess, putFixed, putThread}

@@ -1,0 +1,2 @@
+-- What the proofs of the buffer cite.
+pub mod Shifting

@@ -1,6 +1,0 @@
-use borrow.Author.Needs.{needs}
-use Rattle.recorder.proofs.fresh.Statement.{statement}
-use Rattle.recorder.proofs.fresh.Tie as tie
-
-pub fresh-spec : {M : Type 1} → statement M
-fresh-spec = tie.close (tie.spec (λ c κs. search needs) (λ c. simp (c .fresh .ensures)))
