@@ -40,7 +40,7 @@ pub fn change_of(t: Tables, s: &[u8]) -> Change
         0x07 => process_state_changes::set_critical_at_job(t, a, b, byte_at(s, 3)),
         0x0c => process_state_changes::finish(t, a),
         0x0d => token_changes::create(t, a, b, byte_at(s, 3)),
-        0x0e => token_changes::drop(t, a),
+        0x0e => token_drop_changes::drop(t, a),
         0x0f => policy_changes::set_policy_four(t, a, b, byte_at(s, 3), commands::pairs_at(s)),
         0x10 => set_slack(t, s),
         0x14 => exception_changes::raise(t, a, half_at(s)),

@@ -27,10 +27,8 @@ use Rattle.record_thread.specs.Thread.{threadOf}
 use Rattle.records.specs.declared.tables.Tables.{Tables}
 use Rattle.records.specs.declared.reply.Reply.{Reply}
 use Rattle.records.specs.Reply.{answered}
-use Rattle.records.specs.Tables.{jobAt, processAt, putProcess}
-use Rattle.records.specs.Tables.{withProcesses, withThreads}
-use Rattle.model.specs.Job.{mayTerminate, listsThread, exitProcess}
-use Rattle.model.specs.Job.{stopIn, stopThreads}
+use Rattle.records.specs.Tables.{jobAt, processAt, putProcess, withProcesses, withThreads}
+use Rattle.model.specs.Job.{mayTerminate, listsThread, exitProcess, stopIn, stopThreads}
 use Rattle.model.specs.JobPolicy.{policyOf}
 use Rattle.model.specs.JobCalls.{withNewProcess, createProcess, exitProcessCall}
 use Rattle.model.proofs.Answering.{answering}

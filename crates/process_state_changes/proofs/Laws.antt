@@ -78,15 +78,16 @@ lists-more : (t : Tables) (n p : ℕ) (v : Thread) → any (λ w. threadOf w p) 
 unfolding listsThread putThread
 lists-more t n p v h = h
 
-pub finishes : (t : Tables) (n : ℕ) {c r : Change} → c ≡ defs.unchanged t 0 0 n 0 → n < 128 →
-    c .thread .made ≡ true → isFree (c .thread) ≡ true →
-    any (λ v. threadOf v (c .thread .process)) (set (t .threads) n (finish (c .thread))) ≡ true →
-    r ≡ defs.answered (defs.withThread c (finish (c .thread))) (pos 0) →
+-- w is the thread finished
+pub finishes : (t : Tables) (n : ℕ) {c r : Change} {w : Thread} → c ≡ defs.unchanged t 0 0 n 0 → n < 128 →
+    c .thread .made ≡ true → isFree (c .thread) ≡ true → w ≡ finish (c .thread) →
+    any (λ v. threadOf v (c .thread .process)) (set (t .threads) n w) ≡ true →
+    r ≡ defs.answered (defs.withThread c w) (pos 0) →
     defs.stored t r ≡ finishThreadCall t n
 unfolding reply answered
-finishes t n {c} e a m f l x =
+finishes t n {c} e a m f g l x =
     let thread = storing.thread-read t 0 0 n 0 e a in
     let here : n % 128 ≡ n = omega arith in
-    let w = finish-rests t n (c .thread) _ _ thread refl refl (lists-more t n _ _ l) in
+    let left = finish-rests t n (c .thread) _ _ thread g refl (lists-more t n _ _ l) in
     leaves t n a (rw thread at m) (rw thread at f)
-    (rw (here, w, storing.no-fields t 0 0 n 0 e) at (storing.stores-thread t 0 0 n 0 e _ _ _ x))
+    (rw (here, left, storing.no-fields t 0 0 n 0 e) at (storing.stores-thread t 0 0 n 0 e _ _ _ x))

@@ -1,6 +1,5 @@
--- How the records that were read decide a call on a token: a law for each way that the code ends.
--- Assumes nothing.
-use Prim.Native.Nat.{ℕ, _<_, _≤_, _%_}
+-- How the records that were read decide a new token: a law for each way that the code ends. Assumes nothing.
+use Prim.Native.Nat.{ℕ, _<_, _≤_}
 use mathlib.Core.Path.{_≡_, refl, sym, ap, _∙_}
 use mathlib.Core.Logic.{_≢_}
 use mathlib.Core.Bool.{Bool, true, false, not}
@@ -12,36 +11,32 @@ use Rattle.laws.specs.Guarded.{Guarded, _>>_, refuse_when_}
 use Rattle.laws.specs.Lists.{any}
 use Rattle.laws.proofs.Flow.{passes}
 use Rattle.laws.proofs.Cases.{if-on}
-use Rattle.lists.specs.Each.{hasCount, oneOf, eachIn}
+use Rattle.lists.specs.Each.{hasCount}
 use Rattle.record_job.specs.declared.Job.{Job}
 use Rattle.record_process.specs.declared.Process.{Process}
 use Rattle.record_thread.specs.declared.Thread.{Thread}
-use Rattle.record_thread.specs.Thread.{FULL, suspend, resume}
-use Rattle.record_token.specs.declared.SuspendToken.{SuspendToken}
-use Rattle.record_token.specs.SuspendToken.{newToken, drop}
+use Rattle.record_thread.specs.Thread.{FULL, suspend}
+use Rattle.record_token.specs.SuspendToken.{newToken}
 use Rattle.records.specs.declared.tables.Tables.{Tables}
 use Rattle.records.specs.declared.tables.FoundJob.the-variants.{NoJob, OldJob}
 use Rattle.records.specs.declared.tables.FoundProcess.the-variants.{NoProcess, OldProcess}
 use Rattle.records.specs.declared.tables.FoundThread.the-variants.{NoThread, OldThread}
-use Rattle.records.specs.declared.tables.FoundToken.the-variants.{NoToken, OldToken}
 use Rattle.records.specs.declared.reply.Reply.{Reply}
 use Rattle.records.specs.Reply.{answered}
-use Rattle.records.specs.Tables.{jobAt, processAt, threadAt, tokenAt, putToken}
-use Rattle.records.specs.Tables.{foundJob, foundProcess, foundThread, foundToken}
+use Rattle.records.specs.Tables.{jobAt, processAt, threadAt, tokenAt}
+use Rattle.records.specs.Tables.{foundJob, foundProcess, foundThread}
 use Rattle.owners.specs.declared.FoundTask.{FoundTask}
 use Rattle.owners.specs.declared.FoundTask.the-variants.{NoTask, OldTask}
 use Rattle.owners.specs.Owners.{tasksOf, madeJob, madeProcess, madeThread, foundTask}
 use Rattle.model.specs.Replies.{call, accept}
-use Rattle.model.specs.SuspendToken.{someAt, changeTask, suspendTask, resumeTask, createToken}
-use Rattle.model.specs.SuspendToken.{dropToken, changeIn}
-use Rattle.model.specs.ThreadCalls.{createTokenCall, dropTokenCall}
-use Rattle.model.proofs.Answering.{answering, refuses, accepts, the-task, the-token, no-token}
-use Rattle.model.proofs.Answering.{token-made, within-told}
+use Rattle.model.specs.SuspendToken.{someAt, suspendTask, createToken}
+use Rattle.model.specs.ThreadCalls.{createTokenCall}
+use Rattle.model.proofs.Answering.{answering, refuses, accepts, the-task, token-made, within-told}
 use Rattle.change.specs.declared.Change.{Change}
 use Rattle.change.specs.Change as defs
 use Rattle.change.proofs.Storing.{job-read, process-read, thread-read, token-read}
-use Rattle.change.proofs.Storing.{stores-token, stores-token-spreads}
 use Rattle.token_changes.specs.TokenChanges.{taskMade}
+use Rattle.token_changes.proofs.Threads.{one-suspends, some-of-process, process-stored, some-of-thread, thread-stored}
 
 -- ---- A task by its kind ----------------------------------------------------------------------
 
@@ -83,50 +78,6 @@ module _ (t : Tables) (n new : ℕ) {c : Change} (e : c ≡ defs.unchanged t n n
       go true b h = rw (job-read t n n n new e h) (job-if (jobAt t n .made) (jobAt t n))
       go false true h = rw (process-read t n n n new e h) (process-if (processAt t n .made) (processAt t n))
       go false false h = rw (thread-read t n n n new e h) (thread-if (threadAt t n .made) (threadAt t n))
-
--- ---- The threads concerned --------------------------------------------------------------------
-
-one-suspends : (p : ℕ) → eachIn 1 p ≡ changeIn suspend p
-unfolding eachIn oneOf changeIn if_then_else_
-one-suspends p = refl
-
-one-resumes : (p : ℕ) → eachIn 2 p ≡ changeIn resume p
-unfolding eachIn oneOf changeIn if_then_else_
-one-resumes p = refl
-
-some-of-process : (t : Tables) (kind n count : ℕ) → kind ≡ 1 →
-    someAt t kind n count ≡ any (hasCount n count) (t .threads)
-unfolding someAt if_then_else_
-some-of-process t kind n count z = rw z
-
--- r stores the token w, and each thread of the task changed by f
-abbrev Stores : Tables → ℕ → ℕ → ℕ → (Thread → Thread) → SuspendToken → Change → Type 0
-Stores t kind n k f w r = defs.stored t r ≡ answered (putToken (changeTask f t kind n) k w) (pos 0)
-
-module _ (t : Tables) (j n k : ℕ) {c : Change} (e : c ≡ defs.unchanged t j n n k) (i : k < 64)
-    (kind : ℕ) where
-  process-stored : (each : ℕ) → (each =? 0) ≡ false → (f : Thread → Thread) → eachIn each n ≡ changeIn f n →
-      kind ≡ 1 → {w : SuspendToken} {r : Change} →
-      r ≡ defs.answered (defs.withToken (defs.withEach c each) w) (pos 0) → Stores t kind n k f w r
-  unfolding changeTask if_then_else_
-  process-stored each a f q z {w} x =
-      let b : k % 64 ≡ k = omega arith in
-      rw (stores-token-spreads t j n n k e w each (pos 0) a x, b, q, z)
-
-  module _ (z : kind ≢ 1) (h : n < 128) where
-    some-of-thread : (count : ℕ) → someAt t kind n count ≡ c .thread .suspends =? count
-    unfolding someAt if_then_else_
-    some-of-thread count = rw (ne-eqb kind 1 z, thread-read t j n n k e h)
-
-    thread-stored : (f : Thread → Thread) {w : SuspendToken} {r : Change} →
-        r ≡ defs.answered (defs.withToken (defs.withThread c (f (c .thread))) w) (pos 0) →
-        Stores t kind n k f w r
-    unfolding changeTask if_then_else_
-    thread-stored f {w} x =
-        let a : n % 128 ≡ n = omega arith in
-        let b : k % 64 ≡ k = omega arith in
-        let y = stores-token t j n n k e (f (c .thread)) w (pos 0) x in
-        rw (y, a, b, ne-eqb kind 1 z, thread-read t j n n k e h)
 
 -- ---- 0d --------------------------------------------------------------------------------------
 
@@ -248,90 +199,3 @@ module _ (t : Tables) (new kind n : ℕ) where
                     past-kind
                     (passes _ _ _ (is-full ∙ ne-eqb _ _ v)
                     (accepts t (thread-stored t n n new e i kind y in-threads suspend s)))
-
--- ---- 0e --------------------------------------------------------------------------------------
-
--- o has the token read, c the thread that it names
-abbrev Drops : Tables → ℕ → Reply → Type 0
-Drops t k x = x ≡ dropTokenCall t k
-
-unfoldable heldGuards : Tables → ℕ → SuspendToken → Guarded Reply
-heldGuards t k v = do
-  refuse 106 when someAt t (v .kind) (v .name) 0
-  accept (dropToken t k (v .kind) (v .name))
-
-module _ (t : Tables) (k : ℕ) where
-  pub past-held : {x : Reply} → x ≡ answered t (pos 101) → 64 ≤ k → Drops t k x
-  unfolding dropTokenCall
-  past-held s h = search answering
-
-  module _ (h : k < 64) {o : Change} (d : o ≡ defs.unchanged t 0 0 0 k) where
-    held-is : o .token ≡ tokenAt t k
-    held-is = token-read t 0 0 0 k d h
-
-    lost : {b : Bool} → b ≡ false → (if b then OldToken (tokenAt t k) else NoToken) ≡ NoToken
-    unfolding if_then_else_
-    lost e = rw e
-
-    kept : {b : Bool} → b ≡ true → (if b then OldToken (tokenAt t k) else NoToken) ≡ OldToken (tokenAt t k)
-    unfolding if_then_else_
-    kept e = rw e
-
-    pub not-held : {x : Reply} → x ≡ answered t (pos 103) → not (o .token .held) ≡ true → Drops t k x
-    unfolding dropTokenCall foundToken
-    not-held s p =
-        let f : tokenAt t k .held ≡ false = rw (← held-is) (not-true (o .token .held) p) in
-        passes _ _ _ (lt-leb _ _ h) (no-token t _ _ refl (lost f) s)
-
-    module _ (p : not (o .token .held) ≡ false) {c : Change}
-        (e : c ≡ defs.unchanged t 0 (o .token .name) (o .token .name) k) where
-      -- the token is held, on to the guards of the counts
-      found : {x : Reply} → x ≡ call t (heldGuards t k (tokenAt t k)) → Drops t k x
-      unfolding dropTokenCall foundToken heldGuards
-      found s =
-          let q : tokenAt t k .held ≡ true = rw (← held-is) (not-false (o .token .held) p) in
-          passes _ _ _ (lt-leb _ _ h) (the-token t _ _ refl (kept q) s)
-
-      pub some-none : {b : Bool} {x : Reply} → someAt t (o .token .kind) (o .token .name) 0 ≡ b → b ≡ true →
-          x ≡ answered t (pos 106) → Drops t k x
-      unfolding heldGuards
-      some-none q v s = found (refuses t _ _ s (rw (← held-is) (q ∙ v)))
-
-      lets-go : {b : Bool} {x : Reply} → someAt t (o .token .kind) (o .token .name) 0 ≡ b → b ≡ false →
-          x ≡ answered (putToken (resumeTask t (o .token .kind) (o .token .name)) k (drop (o .token)))
-          (pos 0) →
-          Drops t k x
-      unfolding heldGuards dropToken
-      lets-go q v s = found (passes _ _ _ (rw (← held-is) (q ∙ v)) (accepts t (rw (← held-is) s)))
-
-      module _ (z : o .token .kind ≡ 1) {f : Bool}
-          (g : f ≡ any (hasCount (o .token .name) 0) (t .threads)) where
-        one-none : someAt t (o .token .kind) (o .token .name) 0 ≡ f
-        one-none = some-of-process t (o .token .kind) (o .token .name) 0 z ∙ sym g
-
-        pub none-listed : {x : Reply} → x ≡ answered t (pos 106) → f ≡ true → Drops t k x
-        none-listed s v = some-none one-none v s
-
-        pub off-process : {r : Change} → f ≡ false →
-            r ≡ defs.answered (defs.withToken (defs.withEach c 2) (drop (o .token))) (pos 0) →
-            Drops t k (defs.stored t r)
-        unfolding resumeTask
-        off-process v s =
-            lets-go one-none v
-            (process-stored t 0 (o .token .name) k e h (o .token .kind) 2 refl resume (one-resumes _) z s)
-
-      module _ (z : o .token .kind ≢ 1) (l : o .token .name < 128) where
-        is-none : someAt t (o .token .kind) (o .token .name) 0 ≡ c .thread .suspends =? 0
-        is-none = some-of-thread t 0 (o .token .name) k e h (o .token .kind) z l 0
-
-        pub none-there : {x : Reply} → x ≡ answered t (pos 106) → c .thread .suspends ≡ 0 → Drops t k x
-        none-there s v = some-none is-none (eq-eqb _ _ v) s
-
-        pub off-thread : {r : Change} → c .thread .suspends ≢ 0 →
-            r ≡ defs.answered (defs.withToken (defs.withThread c (resume (c .thread))) (drop (o .token)))
-            (pos 0) →
-            Drops t k (defs.stored t r)
-        unfolding resumeTask
-        off-thread v s =
-            lets-go is-none (ne-eqb _ _ v)
-            (thread-stored t 0 (o .token .name) k e h (o .token .kind) z l resume s)

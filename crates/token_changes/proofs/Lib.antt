@@ -1,1 +1,2 @@
+pub mod Threads
 mod Laws

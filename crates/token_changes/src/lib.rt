@@ -1,5 +1,5 @@
-// token_changes: a suspend token made over a process or a thread, and one dropped. Follows suspend_token.rs.
-ghost use Rattle.model.specs.ThreadCalls.{createTokenCall, dropTokenCall};
+// token_changes: a suspend token made over a process or a thread. Follows suspend_token.rs.
+ghost use Rattle.model.specs.ThreadCalls.{createTokenCall};
 ghost use mathlib.Core.Path.{_≡_};
 ghost use Rattle.change.specs.Change.{Comes};
 ghost use Rattle.token_changes.specs.TokenChanges.{taskMade};
@@ -66,41 +66,6 @@ pub fn create(t: Tables, new: u8, kind: u8, name: u8) -> Change
         return c.answered(Refusal::FULL);
     }
     c.thread = v.suspend();
-    c.token = w;
-    c.answered(0)
-}
-
-// 0e: a token dropped.
-pub fn drop(t: Tables, token: u8) -> Change
-    ensures { λ r. ⌜ Comes t (dropTokenCall t token) r ⌝ }
-{
-    let held = unchanged(t, 0, 0, 0, token);
-    let k = held.token;
-    let mut c = unchanged(t, 0, k.name, k.name, token);
-    if 64 <= token {
-        return c.answered(Refusal::PAST_TABLE);
-    }
-    if !k.held {
-        return c.answered(Refusal::NOT_MADE);
-    }
-    let w = k.drop();
-    if k.kind == Kind::PROCESS {
-        let threads = t.threads;
-        if lists::some_count(threads, k.name, 0) {
-            return c.answered(Refusal::PANICS);
-        }
-        c.each = Each::RESUME;
-        c.token = w;
-        return c.answered(0);
-    }
-    if 128 <= k.name {
-        return c;
-    }
-    let v = c.thread;
-    if v.suspends == 0 {
-        return c.answered(Refusal::PANICS);
-    }
-    c.thread = v.resume();
     c.token = w;
     c.answered(0)
 }

@@ -31,8 +31,7 @@ finish-spec =
     let f = v .before in
     let m = f .before .before in
     let a = m .before .before .before in
-    let left = simp (w .with-thread .ensures, v .finish .ensures) at
+    let left = simp (w .with-thread .ensures) at
     (told (l .lists-thread .ensures) (not-false _ (c .before .if4 .left))) in
-    let r = simp (v .finish .ensures) at (c .answered .ensures) in
     λ _. finishes _ _ (a .before .before .unchanged .ensures) (a .if1 .left) (not-false _ (m .if2 .left))
-    (told (f .before .is-free .ensures) (not-false _ (f .if3 .left))) left r))
+    (told (f .before .is-free .ensures) (not-false _ (f .if3 .left))) (v .finish .ensures) left (c .answered .ensures)))

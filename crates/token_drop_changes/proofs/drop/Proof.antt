@@ -1,9 +1,9 @@
 use Rattle.change.proofs.Storing.{left-open, stays}
-use Rattle.token_changes.proofs.Laws.{past-held, not-held, none-listed, off-process}
-use Rattle.token_changes.proofs.Laws.{none-there, off-thread}
+use Rattle.token_drop_changes.proofs.Laws.{past-held, not-held, none-listed, off-process}
+use Rattle.token_drop_changes.proofs.Laws.{none-there, off-thread}
 use borrow.Author.Needs.{needs}
-use Rattle.token_changes.proofs.drop.Statement.{statement}
-use Rattle.token_changes.proofs.drop.Tie as tie
+use Rattle.token_drop_changes.proofs.drop.Statement.{statement}
+use Rattle.token_drop_changes.proofs.drop.Tie as tie
 
 pub drop-spec : {M : Type 1} → statement M
 drop-spec =
