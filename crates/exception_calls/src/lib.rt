@@ -50,7 +50,7 @@ pub fn close(t: Tables, thread: u8) -> Reply
 pub fn set_state(t: Tables, thread: u8, state: u32) -> Reply
     ensures { λ r. ⌜ r ≡ setState t thread state ⌝ }
 {
-    let v = t.thread_at(thread_move::slot(thread));
+    let v = t.thread_at(thread % 128);
     thread_move::moved(t, thread, on_exception::set_state(thread, v, state))
 }
 
@@ -58,7 +58,7 @@ pub fn set_state(t: Tables, thread: u8, state: u32) -> Reply
 pub fn set_strategy(t: Tables, thread: u8, strategy: u32) -> Reply
     ensures { λ r. ⌜ r ≡ setStrategy t thread strategy ⌝ }
 {
-    let v = t.thread_at(thread_move::slot(thread));
+    let v = t.thread_at(thread % 128);
     thread_move::moved(t, thread, on_exception::set_strategy(thread, v, strategy))
 }
 
@@ -66,6 +66,6 @@ pub fn set_strategy(t: Tables, thread: u8, strategy: u32) -> Reply
 pub fn get_process_handle(t: Tables, thread: u8) -> Reply
     ensures { λ r. ⌜ r ≡ getProcessHandle t thread ⌝ }
 {
-    let v = t.thread_at(thread_move::slot(thread));
+    let v = t.thread_at(thread % 128);
     thread_move::moved(t, thread, on_exception::get_process_handle(thread, v))
 }

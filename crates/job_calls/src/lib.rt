@@ -62,7 +62,7 @@ pub fn kill(t: Tables, job: u8) -> Reply
 pub fn set_policy_timer_slack(t: Tables, job: u8, policy: TimerSlackPolicy) -> Reply
     ensures { λ r. ⌜ r ≡ setPolicyTimerSlack t job policy ⌝ }
 {
-    let j = t.job_at(job_move::slot(job));
+    let j = t.job_at(job % 32);
     let empty = job_empty(t, job);
     job_move::moved(
         t,
@@ -75,7 +75,7 @@ pub fn set_policy_timer_slack(t: Tables, job: u8, policy: TimerSlackPolicy) -> R
 pub fn get_info(t: Tables, job: u8) -> Reply
     ensures { λ r. ⌜ r ≡ jobInformation t job ⌝ }
 {
-    let slot = job_move::slot(job);
+    let slot = job % 32;
     let j = t.job_at(slot);
     let own = t.own_at(slot);
     let inherited = t.inherited_at(slot);

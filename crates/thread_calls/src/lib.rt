@@ -11,16 +11,21 @@ use records::tables::Tables;
 pub fn create_with_ext(t: Tables, process: u8, new: u8) -> Reply
     ensures { λ r. ⌜ r ≡ createThread t process new ⌝ }
 {
-    let q = t.process_at(process_move::slot(process));
+    let q = t.process_at(process % 64);
     let v = t.thread_at(new % 128);
-    on_pair::both_moved(t, process, new, on_pair::create_thread(process, new, q, v))
+    pair_move::both_moved(
+        t,
+        process,
+        new,
+        on_create_thread::create_thread(process, new, q, v),
+    )
 }
 
 // 09: `Thread::start`.
 pub fn start(t: Tables, thread: u8) -> Reply
     ensures { λ r. ⌜ r ≡ startThread t thread ⌝ }
 {
-    let v = t.thread_at(thread_move::slot(thread));
+    let v = t.thread_at(thread % 128);
     thread_move::moved(t, thread, on_thread::start(thread, v))
 }
 
@@ -28,7 +33,7 @@ pub fn start(t: Tables, thread: u8) -> Reply
 pub fn kill(t: Tables, thread: u8) -> Reply
     ensures { λ r. ⌜ r ≡ killThread t thread ⌝ }
 {
-    let v = t.thread_at(thread_move::slot(thread));
+    let v = t.thread_at(thread % 128);
     thread_move::moved(t, thread, on_thread::kill(thread, v))
 }
 
@@ -36,7 +41,7 @@ pub fn kill(t: Tables, thread: u8) -> Reply
 pub fn exit(t: Tables, thread: u8) -> Reply
     ensures { λ r. ⌜ r ≡ exitThread t thread ⌝ }
 {
-    let v = t.thread_at(thread_move::slot(thread));
+    let v = t.thread_at(thread % 128);
     thread_move::moved(t, thread, on_thread::exit(thread, v))
 }
 
@@ -44,6 +49,6 @@ pub fn exit(t: Tables, thread: u8) -> Reply
 pub fn get_thread_info(t: Tables, thread: u8) -> Reply
     ensures { λ r. ⌜ r ≡ threadInformation t thread ⌝ }
 {
-    let v = t.thread_at(thread_move::slot(thread));
+    let v = t.thread_at(thread % 128);
     thread_move::moved(t, thread, on_thread::get_thread_info(thread, v))
 }
