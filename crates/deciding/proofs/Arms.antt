@@ -25,10 +25,10 @@ use Rattle.thread_move.specs.ThreadMove as thread
 use Rattle.thread_move.specs.declared.Move as ThreadMove
 use Rattle.thread_move.specs.declared.Early as ThreadEarly
 use Rattle.process_move.specs.ProcessMove as process
-use Rattle.on_pair.specs.OnPair as pair
+use Rattle.pair_move.specs.PairMove as pair
 use Rattle.process_move.specs.declared.Move as ProcessMove
 use Rattle.process_move.specs.declared.Early as ProcessEarly
-use Rattle.on_pair.specs.declared.Both as ProcessBoth
+use Rattle.pair_move.specs.declared.Both as ProcessBoth
 use Rattle.job_move.specs.JobMove as job
 use Rattle.job_move.specs.declared.Move as JobMove
 use Rattle.job_move.specs.declared.Early as JobEarly

@@ -22,7 +22,7 @@ use Rattle.thread_move.specs.declared.Move as OnThread
 use Rattle.thread_move.specs.declared.Early as EarlyThread
 use Rattle.process_move.specs.declared.Move as OnProcess
 use Rattle.process_move.specs.declared.Early as EarlyProcess
-use Rattle.on_pair.specs.declared.Both as Both
+use Rattle.pair_move.specs.declared.Both as Both
 use Rattle.job_move.specs.declared.Move as OnJob
 use Rattle.job_move.specs.declared.Early as EarlyJob
 use Rattle.slots.specs.declared.Slots.{Slots}

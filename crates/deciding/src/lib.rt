@@ -108,7 +108,7 @@ fn by_job(m: job_move::Move, v: Thread, q: Process) -> Decided
     }
 }
 
-fn by_both(m: on_pair::Both, j: Job) -> Decided
+fn by_both(m: pair_move::Both, j: Job) -> Decided
     ensures { λ r. ⌜ r ≡ byBoth m j ⌝ }
 {
     let v = m.thread;
@@ -241,14 +241,14 @@ pub fn decide(
     match byte_at(s, 0) {
         0x02 => early_job(on_job::kill(a, j), v, q, j),
         0x03 => early_process(on_exit::create_with_ext(a, b, j, q), v, q, j),
-        0x04 => by_both(on_pair::start(a, b, q, v), j),
+        0x04 => by_both(on_start::start(a, b, q, v), j),
         0x05 => early_process(on_exit::exit(a, q), v, q, j),
         0x06 => early_process(on_exit::exit(a, q), v, q, j),
         0x07 => {
             let flag = byte_at(s, 3);
             early_process(on_exit::set_critical_at_job(a, b, flag, q, j), v, q, j)
         }
-        0x08 => by_both(on_pair::create_thread(a, b, q, v), j),
+        0x08 => by_both(on_create_thread::create_thread(a, b, q, v), j),
         0x09 => by_thread(on_thread::start(a, v), q, j),
         0x0a => by_thread(on_thread::kill(a, v), q, j),
         0x0b => by_thread(on_thread::exit(a, v), q, j),

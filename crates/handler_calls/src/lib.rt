@@ -11,7 +11,7 @@ use records::tables::Tables;
 pub fn set_state(t: Tables, thread: u8, state: u32) -> Reply
     ensures { λ r. ⌜ r ≡ setState t thread state ⌝ }
 {
-    let v = thread_at(t, thread_move::slot(thread));
+    let v = thread_at(t, thread % 128);
     thread_move::moved(t, thread, on_exception::set_state(thread, v, state))
 }
 
@@ -19,7 +19,7 @@ pub fn set_state(t: Tables, thread: u8, state: u32) -> Reply
 pub fn set_strategy(t: Tables, thread: u8, strategy: u32) -> Reply
     ensures { λ r. ⌜ r ≡ setStrategy t thread strategy ⌝ }
 {
-    let v = thread_at(t, thread_move::slot(thread));
+    let v = thread_at(t, thread % 128);
     thread_move::moved(t, thread, on_exception::set_strategy(thread, v, strategy))
 }
 
@@ -27,6 +27,6 @@ pub fn set_strategy(t: Tables, thread: u8, strategy: u32) -> Reply
 pub fn get_process_handle(t: Tables, thread: u8) -> Reply
     ensures { λ r. ⌜ r ≡ getProcessHandle t thread ⌝ }
 {
-    let v = thread_at(t, thread_move::slot(thread));
+    let v = thread_at(t, thread % 128);
     thread_move::moved(t, thread, on_exception::get_process_handle(thread, v))
 }

@@ -65,7 +65,7 @@ pub fn kill(t: Tables, job: u8) -> Reply
 pub fn set_policy_timer_slack(t: Tables, job: u8, policy: TimerSlackPolicy) -> Reply
     ensures { λ r. ⌜ r ≡ setPolicyTimerSlack t job policy ⌝ }
 {
-    let j = job_at(t, job_move::slot(job));
+    let j = job_at(t, job % 32);
     let empty = job_empty(t, job);
     job_move::moved(
         t,
@@ -78,7 +78,7 @@ pub fn set_policy_timer_slack(t: Tables, job: u8, policy: TimerSlackPolicy) -> R
 pub fn get_info(t: Tables, job: u8) -> Reply
     ensures { λ r. ⌜ r ≡ jobInformation t job ⌝ }
 {
-    let slot = job_move::slot(job);
+    let slot = job % 32;
     let j = job_at(t, slot);
     let own = own_at(t, slot);
     let inherited = inherited_at(t, slot);

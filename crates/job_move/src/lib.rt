@@ -1,7 +1,7 @@
 // job_move: what a call on one job comes to over the records that it names alone, a move, and the reply that the move
 // stands for. specs/JobMove.antt says when a move is what the call comes to.
 ghost use mathlib.Core.Path.{_≡_};
-ghost use Rattle.job_move.specs.JobMove.{slot, move, foundIn, moved};
+ghost use Rattle.job_move.specs.JobMove.{move, foundIn, moved};
 use job_policy::JobPolicy;
 use record_job::Job;
 use records::reply::Fields;
@@ -45,13 +45,6 @@ pub fn found(j: Job) -> FoundJob
     FoundJob::NoJob
 }
 
-// Where a name is looked up.
-pub fn slot(job: u8) -> u8
-    ensures { λ r. ⌜ r ≡ slot job ⌝ }
-{
-    job % 32
-}
-
 // The reply that a move stands for.
 pub fn moved(t: Tables, job: u8, m: Move) -> Reply
     ensures { λ r. ⌜ r ≡ moved t job m ⌝ }
@@ -62,6 +55,6 @@ pub fn moved(t: Tables, job: u8, m: Move) -> Reply
         answer: m.answer,
         fields: fields,
         policy: policy,
-        tables: t.with_job(slot(job), m.job),
+        tables: t.with_job(job % 32, m.job),
     }
 }

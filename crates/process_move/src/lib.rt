@@ -1,7 +1,7 @@
 // process_move: what a call on one process comes to over the records that it names alone, a move, and the reply that the
 // move stands for. specs/ProcessMove.antt says when a move is what the call comes to.
 ghost use mathlib.Core.Path.{_≡_};
-ghost use Rattle.process_move.specs.ProcessMove.{slot, move, foundIn, moved};
+ghost use Rattle.process_move.specs.ProcessMove.{move, foundIn, moved};
 use record_process::Process;
 use records::reply::Fields;
 use records::reply::Reply;
@@ -42,17 +42,10 @@ pub fn found(q: Process) -> FoundProcess
     FoundProcess::NoProcess
 }
 
-// Where a name is looked up.
-pub fn slot(process: u8) -> u8
-    ensures { λ r. ⌜ r ≡ slot process ⌝ }
-{
-    process % 64
-}
-
 // The reply that a move stands for.
 pub fn moved(t: Tables, process: u8, m: Move) -> Reply
     ensures { λ r. ⌜ r ≡ moved t process m ⌝ }
 {
     let fields = m.fields;
-    Reply::with_fields(t.with_process(slot(process), m.process), m.answer, fields)
+    Reply::with_fields(t.with_process(process % 64, m.process), m.answer, fields)
 }

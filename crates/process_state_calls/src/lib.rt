@@ -19,9 +19,9 @@ use records::tables::Tables;
 pub fn start(t: Tables, process: u8, thread: u8) -> Reply
     ensures { λ r. ⌜ r ≡ startProcess t process thread ⌝ }
 {
-    let q = process_at(t, process_move::slot(process));
+    let q = process_at(t, process % 64);
     let v = thread_at(t, thread % 128);
-    on_pair::both_moved(t, process, thread, on_pair::start(process, thread, q, v))
+    pair_move::both_moved(t, process, thread, on_start::start(process, thread, q, v))
 }
 
 // 07: `Process::set_critical_at_job`.
@@ -57,7 +57,7 @@ pub fn set_critical_at_job(t: Tables, process: u8, job: u8, flag: u8) -> Reply
 pub fn check_policy(t: Tables, process: u8, condition: u8) -> Reply
     ensures { λ r. ⌜ r ≡ checkPolicy t process condition ⌝ }
 {
-    let slot = process_move::slot(process);
+    let slot = process % 64;
     let q = process_at(t, slot);
     let fixed = fixed_at(t, slot);
     process_move::moved(
@@ -71,6 +71,6 @@ pub fn check_policy(t: Tables, process: u8, condition: u8) -> Reply
 pub fn get_info(t: Tables, process: u8) -> Reply
     ensures { λ r. ⌜ r ≡ processInformation t process ⌝ }
 {
-    let q = process_at(t, process_move::slot(process));
+    let q = process_at(t, process % 64);
     process_move::moved(t, process, on_process::get_info(process, q))
 }

@@ -13,16 +13,21 @@ use records::tables::Tables;
 pub fn create_with_ext(t: Tables, process: u8, new: u8) -> Reply
     ensures { λ r. ⌜ r ≡ createThread t process new ⌝ }
 {
-    let q = process_at(t, process_move::slot(process));
+    let q = process_at(t, process % 64);
     let v = thread_at(t, new % 128);
-    on_pair::both_moved(t, process, new, on_pair::create_thread(process, new, q, v))
+    pair_move::both_moved(
+        t,
+        process,
+        new,
+        on_create_thread::create_thread(process, new, q, v),
+    )
 }
 
 // 09: `Thread::start`.
 pub fn start(t: Tables, thread: u8) -> Reply
     ensures { λ r. ⌜ r ≡ startThread t thread ⌝ }
 {
-    let v = thread_at(t, thread_move::slot(thread));
+    let v = thread_at(t, thread % 128);
     thread_move::moved(t, thread, on_thread::start(thread, v))
 }
 
@@ -30,7 +35,7 @@ pub fn start(t: Tables, thread: u8) -> Reply
 pub fn kill(t: Tables, thread: u8) -> Reply
     ensures { λ r. ⌜ r ≡ killThread t thread ⌝ }
 {
-    let v = thread_at(t, thread_move::slot(thread));
+    let v = thread_at(t, thread % 128);
     thread_move::moved(t, thread, on_thread::kill(thread, v))
 }
 
@@ -38,7 +43,7 @@ pub fn kill(t: Tables, thread: u8) -> Reply
 pub fn exit(t: Tables, thread: u8) -> Reply
     ensures { λ r. ⌜ r ≡ exitThread t thread ⌝ }
 {
-    let v = thread_at(t, thread_move::slot(thread));
+    let v = thread_at(t, thread % 128);
     thread_move::moved(t, thread, on_thread::exit(thread, v))
 }
 
@@ -46,6 +51,6 @@ pub fn exit(t: Tables, thread: u8) -> Reply
 pub fn get_thread_info(t: Tables, thread: u8) -> Reply
     ensures { λ r. ⌜ r ≡ threadInformation t thread ⌝ }
 {
-    let v = thread_at(t, thread_move::slot(thread));
+    let v = thread_at(t, thread % 128);
     thread_move::moved(t, thread, on_thread::get_thread_info(thread, v))
 }

@@ -60,9 +60,9 @@ under t c true k l e = refl
 under t c false k l e = e
 
 -- a call over the tables, from the call over the record that they have
-pub whole : {x : Reply} (f : Tables → Reply) (t : Tables) (n : ℕ) {k : ℕ} {v : Thread} (m : Move) →
-    x ≡ moved t n m → Moves f n v m → v ≡ threadAt t k → k ≡ slot n → x ≡ f t
-whole f t n m p q r s = p ∙ q t (sym (r ∙ ap (threadAt t) s))
+pub whole : {x : Reply} (f : Tables → Reply) (t : Tables) (n : ℕ) {v : Thread} (m : Move) →
+    x ≡ moved t n m → Moves f n v m → v ≡ threadAt t (slot n) → x ≡ f t
+whole f t n m p q r = p ∙ q t (sym r)
 
 pub read-at : (t : Tables) (n : ℕ) {v : Thread} → n < 128 → threadAt t (slot n) ≡ v → threadAt t n ≡ v
 read-at t n l h = rw (← same n l) h

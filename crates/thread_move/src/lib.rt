@@ -1,7 +1,7 @@
 // thread_move: what a call on one thread comes to, over its record alone, so that a caller with the tables can work in
 // place. specs/ThreadMove.antt says what a move means.
 ghost use mathlib.Core.Path.{_≡_};
-ghost use Rattle.thread_move.specs.ThreadMove.{slot, move, foundIn, moved};
+ghost use Rattle.thread_move.specs.ThreadMove.{move, foundIn, moved};
 use record_thread::Thread;
 use records::reply::Fields;
 use records::reply::Reply;
@@ -15,20 +15,13 @@ pub struct Move {
     pub thread: Thread,
 }
 
-// Where a name is looked up.
-pub fn slot(thread: u8) -> u8
-    ensures { λ r. ⌜ r ≡ slot thread ⌝ }
-{
-    thread % 128
-}
-
 // The reply that a move stands for.
 pub fn moved(t: Tables, thread: u8, m: Move) -> Reply
     ensures { λ r. ⌜ r ≡ moved t thread m ⌝ }
 {
     let fields = m.fields;
     let v = m.thread;
-    Reply::with_fields(t.with_thread(slot(thread), v), m.answer, fields)
+    Reply::with_fields(t.with_thread(thread % 128, v), m.answer, fields)
 }
 
 // An answer with no field.

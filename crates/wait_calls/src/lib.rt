@@ -10,7 +10,7 @@ use records::tables::Tables;
 pub fn begin_wait(t: Tables, thread: u8, state: u16) -> Reply
     ensures { λ r. ⌜ r ≡ beginWait t thread state ⌝ }
 {
-    let v = thread_at(t, thread_move::slot(thread));
+    let v = thread_at(t, thread % 128);
     thread_move::moved(t, thread, on_wait::begin_wait(thread, v, state))
 }
 
@@ -18,6 +18,6 @@ pub fn begin_wait(t: Tables, thread: u8, state: u16) -> Reply
 pub fn poll_wait(t: Tables, thread: u8, ready: u8) -> Reply
     ensures { λ r. ⌜ r ≡ pollWait t thread ready ⌝ }
 {
-    let v = thread_at(t, thread_move::slot(thread));
+    let v = thread_at(t, thread % 128);
     thread_move::moved(t, thread, on_wait::poll_wait(thread, v, ready))
 }

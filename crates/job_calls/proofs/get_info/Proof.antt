@@ -12,11 +12,7 @@ get-info-spec =
     (λ c κs. search needs)
     (λ c κs. search needs)
     (λ c κs. search needs)
-    (λ c κs. search needs)
     (λ c.
     let b = c .before .before in
-    let slot = b .before .before .before .slot .ensures in
-    let j = simp slot at (b .before .before .job-at .ensures) in
-    let own = simp slot at (b .before .own-at .ensures) in
-    let inherited = simp slot at (b .inherited-at .ensures) in
-    c .moved .ensures ∙ c .before .get-info .ensures _ (sym j) (sym own) (sym inherited)))
+    c .moved .ensures ∙ c .before .get-info .ensures _
+    (sym (b .before .before .job-at .ensures)) (sym (b .before .own-at .ensures)) (sym (b .inherited-at .ensures))))

@@ -11,8 +11,6 @@ set-policy-timer-slack-spec =
     (λ c κs. search needs)
     (λ c κs. search needs)
     (λ c κs. search needs)
-    (λ c κs. search needs)
     (λ c.
-    let b = c .before .before in
-    let j = simp (b .before .before .slot .ensures) at (b .before .job-at .ensures) in
-    c .moved .ensures ∙ c .before .set-policy-timer-slack .ensures .0 _ (sym j) (sym (b .job-empty .ensures))))
+    c .moved .ensures ∙ c .before .set-policy-timer-slack .ensures .0 _
+    (sym (c .before .before .before .job-at .ensures)) (sym (c .before .before .job-empty .ensures))))

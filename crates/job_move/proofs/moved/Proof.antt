@@ -14,9 +14,7 @@ moved-spec =
     tie.close
     (tie.spec
     (λ c κs. search needs)
-    (λ c κs. search needs)
     (λ c.
-    let m = c .before .before .before .before .args .m in
+    let m = c .before .before .before .args .m in
     let f : SFits w64 (m .answer) = search needs in
-    let e = simp (c .before .before .slot .ensures) at (c .before .with-job .ensures) in
-    ap₂ (λ answer tables. replyWith tables (m .fields) answer (m .policy)) (toZ-ofZ {w = w64} f) e))
+    ap₂ (λ answer tables. replyWith tables (m .fields) answer (m .policy)) (toZ-ofZ {w = w64} f) (c .before .with-job .ensures)))

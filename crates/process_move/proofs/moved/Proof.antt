@@ -13,11 +13,6 @@ moved-spec =
     (tie.spec
     (λ c κs. search needs)
     (λ c κs. search needs)
-    (λ c κs. search needs)
     (λ c.
-    let f : SFits w64 (c .before .before .before .before .args .m .answer) = search needs in
-    simp (
-      toZ-ofZ {w = w64} f,
-      c .before .before .with-process .ensures,
-      c .before .before .before .slot .ensures,
-    ) at (c .with-fields .ensures)))
+    let f : SFits w64 (c .before .before .before .args .m .answer) = search needs in
+    simp (toZ-ofZ {w = w64} f, c .before .before .with-process .ensures) at (c .with-fields .ensures)))

@@ -11,10 +11,7 @@ check-policy-spec =
     (λ c κs. search needs)
     (λ c κs. search needs)
     (λ c κs. search needs)
-    (λ c κs. search needs)
     (λ c.
     let b = c .before .before in
-    let slot = b .before .before .slot .ensures in
-    let q = simp slot at (b .before .process-at .ensures) in
-    let fixed = simp slot at (b .fixed-at .ensures) in
-    c .moved .ensures ∙ c .before .check-policy .ensures _ (sym q) (sym fixed)))
+    c .moved .ensures ∙ c .before .check-policy .ensures _
+    (sym (b .before .process-at .ensures)) (sym (b .fixed-at .ensures))))

@@ -10,8 +10,5 @@ get-info-spec =
     (λ c κs. search needs)
     (λ c κs. search needs)
     (λ c κs. search needs)
-    (λ c κs. search needs)
     (λ c.
-    let b = c .before .before in
-    let q = simp (b .before .slot .ensures) at (b .process-at .ensures) in
-    c .moved .ensures ∙ c .before .get-info .ensures _ (sym q)))
+    c .moved .ensures ∙ c .before .get-info .ensures _ (sym (c .before .before .process-at .ensures))))

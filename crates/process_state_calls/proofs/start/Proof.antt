@@ -11,8 +11,6 @@ start-spec =
     (λ c κs. search needs)
     (λ c κs. search needs)
     (λ c κs. search needs)
-    (λ c κs. search needs)
     (λ c.
-    let b = c .before .before in
-    let q = simp (b .before .before .slot .ensures) at (b .before .process-at .ensures) in
-    c .both-moved .ensures ∙ c .before .start .ensures _ (sym q) (sym (b .thread-at .ensures))))
+    c .both-moved .ensures ∙ c .before .start .ensures _
+    (sym (c .before .before .before .process-at .ensures)) (sym (c .before .before .thread-at .ensures))))

@@ -13,8 +13,7 @@ moved-spec =
     (tie.spec
     (λ c κs. search needs)
     (λ c κs. search needs)
-    (λ c κs. search needs)
     (λ c.
-    let f : SFits w64 (c .before .before .before .before .before .args .m .answer) = search needs in
+    let f : SFits w64 (c .before .before .before .before .args .m .answer) = search needs in
     let e = simp (toZ-ofZ {w = w64} f) at (c .with-fields .ensures) in
-    simp (e, c .before .before .with-thread .ensures, c .before .before .before .slot .ensures)))
+    simp (e, c .before .before .with-thread .ensures)))

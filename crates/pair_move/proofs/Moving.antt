@@ -15,8 +15,8 @@ use Rattle.records.specs.Tables.{processAt, threadAt, putProcess, putThread}
 use Rattle.model.proofs.Answering.{answering}
 use Rattle.process_move.proofs.Moving.{same, kept, looked-up}
 use Rattle.thread_move.proofs.Moving as thread
-use Rattle.on_pair.specs.declared.Both.{Both}
-use Rattle.on_pair.specs.OnPair.{two, bothMoved}
+use Rattle.pair_move.specs.declared.Both.{Both}
+use Rattle.pair_move.specs.PairMove.{two, bothMoved}
 
 pub both-stay : {m : Both} (t : Tables) (p n : ℕ) {q : Process} {v : Thread} (c : ℤ) →
     m ≡ two q v c → processAt t (p % 64) ≡ q → threadAt t (n % 128) ≡ v → bothMoved t p n m ≡ answered t c

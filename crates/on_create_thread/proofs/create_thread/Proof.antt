@@ -1,8 +1,8 @@
 use Rattle.model.specs.ThreadCalls.{createThread}
-use Rattle.on_pair.proofs.Moving.{pairs}
+use Rattle.pair_move.proofs.Moving.{pairs}
 use borrow.Author.Needs.{needs}
-use Rattle.on_pair.proofs.create_thread.Statement.{statement}
-use Rattle.on_pair.proofs.create_thread.Tie as tie
+use Rattle.on_create_thread.proofs.create_thread.Statement.{statement}
+use Rattle.on_create_thread.proofs.create_thread.Tie as tie
 
 pub create-thread-spec : {M : Type 1} → statement M
 unfolding createThread

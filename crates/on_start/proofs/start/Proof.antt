@@ -7,15 +7,15 @@ use Rattle.records.specs.declared.tables.Tables.{Tables}
 use Rattle.records.specs.Reply.{answered}
 use Rattle.records.specs.Tables.{processAt, threadAt}
 use Rattle.model.specs.JobCalls.{withStarted, startProcess}
-use Rattle.on_pair.proofs.Moving.{pairs, both-stay}
+use Rattle.pair_move.proofs.Moving.{pairs, both-stay}
 use Rattle.record_process.specs.declared.Status.the-variants.{Running}
 use Rattle.record_process.specs.Process.{withStatus}
 use Rattle.record_thread.specs.Thread.{start}
-use Rattle.on_pair.specs.declared.Both.{Both}
-use Rattle.on_pair.specs.OnPair.{two, bothMoved}
+use Rattle.pair_move.specs.declared.Both.{Both}
+use Rattle.pair_move.specs.PairMove.{two, bothMoved}
 use borrow.Author.Needs.{needs}
-use Rattle.on_pair.proofs.start.Statement.{statement}
-use Rattle.on_pair.proofs.start.Tie as tie
+use Rattle.on_start.proofs.start.Statement.{statement}
+use Rattle.on_start.proofs.start.Tie as tie
 
 past-started : (c : tie.Then5) {x : Reply} (t : Tables) →
     let a = c .before .before .before .before .before .before .before .before .before .before .before

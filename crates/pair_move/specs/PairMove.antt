@@ -9,7 +9,7 @@ use Rattle.records.specs.declared.tables.Tables.{Tables}
 use Rattle.records.specs.declared.reply.Reply.{Reply}
 use Rattle.records.specs.Reply.{answered}
 use Rattle.records.specs.Tables.{processAt, threadAt, putProcess, putThread}
-use Rattle.on_pair.specs.declared.Both.{Both}
+use Rattle.pair_move.specs.declared.Both.{Both}
 
 abbrev pub two : Process → Thread → ℤ → Both
 two q v answer = record { answer = answer; process = q; thread = v }
