@@ -1,5 +1,5 @@
-// change: what a call changes, where that is at most one record of each table, and each thread of one process alike, so that
-// a caller with the tables can work in place. specs/Change.antt says what a change stands for.
+// change: what a call changes, where that is at most one record of each table, and each thread of one process alike,
+// so that a caller with the tables can work in place. specs/Change.antt says what a change stands for.
 ghost use mathlib.Core.Path.{_≡_};
 ghost use Rattle.change.specs.Change as defs;
 use job_policy::JobPolicy;

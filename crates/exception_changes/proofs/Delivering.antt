@@ -125,18 +125,24 @@ module _ (t : Tables) (j p n : ℕ) {c : Change} (e : c ≡ defs.unchanged t j p
     there : {b : Bool} → c .thread .killed ≡ b → threadAt t n .killed ≡ b
     there d = ap (λ (v : Thread). v .killed) (sym (thread-read t j p n 0 e h)) ∙ d
 
-    pub exits : {r : Change} (kind : ℕ) → r ≡ exitsTo c q kind → r .whole ≡ true → defs.stored t r ≡ raiseExiting t n kind
+    pub exits : {r : Change} (kind : ℕ) → r ≡ exitsTo c q kind → r .whole ≡ true →
+        defs.stored t r ≡ raiseExiting t n kind
     unfolding exitsTo raiseExiting if_then_else_
     exits {r} kind g w =
-        by (isHungUp (q .level1)) (λ y. left-open t j p n 0 e (sym (ap (λ (x : Change). x .whole) (rw y at g)) ∙ w)) (λ y.
+        by (isHungUp (q .level1))
+        (λ y. left-open t j p n 0 e (sym (ap (λ (x : Change). x .whole) (rw y at g)) ∙ w))
+        (λ y.
         by (not (isBound (q .level1)))
         (λ z.
         let k : tried (q .level1) ≡ q .level1 = tried-same (q .level1) y in
         shows NEXT (OwnerField 0) (rw (y, z) at g)
-        ∙ rw (← level-is, z) (ap (λ (u : Tables). reply u NEXT (OwnerField 0)) (sym (passed t n Exiting (rw level-is at k)))))
+        ∙ rw (← level-is, z)
+        (ap (λ (u : Tables). reply u NEXT (OwnerField 0)) (sym (passed t n Exiting (rw level-is at k)))))
         (λ z.
         by (c .thread .killed)
-        (λ d. shows STOP (OwnerField 0) ((rw (y, z) at g) ∙ sym (first _ _ d refl)) ∙ rw (← level-is, z) (first _ _ (there d) refl))
+        (λ d.
+        shows STOP (OwnerField 0) ((rw (y, z) at g) ∙ sym (first _ _ d refl))
+        ∙ rw (← level-is, z) (first _ _ (there d) refl))
         (λ d. stores (λ v. waits v (v .state) (InException (exceptionAt kind Exiting false))) (pos 1)
         (OwnerField (c .thread .process)) ((rw (y, z) at g) ∙ sym (second _ _ d refl))
         ∙ rw (← level-is, z) (second _ _ (there d) (rw (thread-read t j p n 0 e h))))))

@@ -148,8 +148,8 @@ delivers c Nowhere n kind second = endsNowhere c kind
 delivers c Passing n kind second = c
 delivers c (Up debugger j) n kind second = c
 
--- ThreadExiting goes to level 1 and leaves the state; a killed thread sends it and is stopped (M11). A hung-up level is left
--- open
+-- ThreadExiting goes to level 1 and leaves the state; a killed thread sends it and is stopped (M11). A hung-up level is
+-- left open
 unfoldable pub exitsTo : Change → Process → ℕ → Change
 exitsTo c q kind =
     if isHungUp (q .level1) then c else

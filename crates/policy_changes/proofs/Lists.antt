@@ -1,4 +1,5 @@
--- How a policy list's change meets its call: the entries gone through once, then the refusals in order. Assumes nothing.
+-- How a policy list's change meets its call: the entries gone through once, then the refusals in order.
+-- Assumes nothing.
 use Prim.Native.Nat.{ℕ, _%_, _≤_, _<_}
 use native.Mathlib.Omega.{arith}
 use mathlib.Core.Path.{_≡_, ap, ap₂, _∙_}
@@ -70,11 +71,13 @@ module _ (t : Tables) (j option : ℕ) (l : List BasicPolicy) {c : Change} (e : 
       ap (finishWork t j option) (f ∙ ap₂ (λ (x y : JobPolicy). afterEach (startWork x y option) l) own inherited)
       ∙ one-pass t j option l
 
-  pub option-refused : {r : Change} → r ≡ defs.answered c (pos 104) → 1 < option → defs.stored t r ≡ setPolicyBasic t j option l
+  pub option-refused : {r : Change} → r ≡ defs.answered c (pos 104) → 1 < option →
+      defs.stored t r ≡ setPolicyBasic t j option l
   option-refused x h = past-option t j option w (storing.stays t j 0 0 0 e _ x) h ∙ whole-list
 
   module _ (a : option ≤ 1) where
-    pub entry-refused : {r : Change} → r ≡ defs.answered c (pos 104) → w .bad ≡ true → defs.stored t r ≡ setPolicyBasic t j option l
+    pub entry-refused : {r : Change} → r ≡ defs.answered c (pos 104) → w .bad ≡ true →
+        defs.stored t r ≡ setPolicyBasic t j option l
     entry-refused x h = bad-list t j option w a (storing.stays t j 0 0 0 e _ x) h ∙ whole-list
 
     module _ (b : w .bad ≡ false) where
@@ -85,7 +88,8 @@ module _ (t : Tables) (j option : ℕ) (l : List BasicPolicy) {c : Change} (e : 
           absent t j option w a b d (storing.stays t j 0 0 0 e _ x) (rw job at h) ∙ whole-list
 
       module _ (m : c .job .made ≡ true) {z : Bool} (y : z ≡ emptyIn t j) where
-        pub busy-refused : {r : Change} → r ≡ defs.answered c BAD-STATE → z ≡ false → defs.stored t r ≡ setPolicyBasic t j option l
+        pub busy-refused : {r : Change} → r ≡ defs.answered c BAD-STATE → z ≡ false →
+            defs.stored t r ≡ setPolicyBasic t j option l
         busy-refused x h =
             let job = storing.job-read t j 0 0 0 e d in
             busy t j option w a b d (rw job at m) (storing.stays t j 0 0 0 e _ x) (empty-there t j y ∙ h) ∙ whole-list

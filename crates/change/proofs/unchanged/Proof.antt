@@ -27,5 +27,5 @@ unchanged-spec =
     (λ c. search needs)
     (λ c. search needs)
     (λ c.
-    as-read _ _ _ _ _ _ _ _ _ _ _ _ (search length-mapped) (search length-mapped) (search length-mapped) (search length-mapped)
-    (search length-mapped) (search length-mapped) (search length-mapped)))
+    as-read _ _ _ _ _ _ _ _ _ _ _ _ (search length-mapped) (search length-mapped) (search length-mapped)
+    (search length-mapped) (search length-mapped) (search length-mapped) (search length-mapped)))
