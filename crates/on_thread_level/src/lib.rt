@@ -1,5 +1,5 @@
-// on_thread_level: a thread's level 2, bound and hung up over its record alone, so that a caller with the tables can work
-// in place. Follows exception.rs. Each answers document 01's refusals in its order.
+// on_thread_level: a thread's level 2, bound and hung up over its record alone, so that a caller with the tables can
+// work in place. Follows exception.rs. Each answers document 01's refusals in its order.
 ghost use Rattle.model.specs.ExceptionCalls.{bindLevel, hangUpLevel};
 ghost use Rattle.thread_move.specs.ThreadMove.{Moves};
 use error::Refusal;

@@ -1,4 +1,4 @@
-// pair_move: what a call on a process and a thread comes to over the two records alone, and the reply that it stands for.
+// pair_move: what a call on a process and a thread comes to over the two records alone, and the reply for it.
 // specs/PairMove.antt says when a pair of records is what the call comes to.
 ghost use mathlib.Core.Path.{_≡_};
 ghost use Rattle.pair_move.specs.PairMove.{two, bothMoved};

@@ -17,4 +17,5 @@ moved-spec =
     (λ c.
     let m = c .before .before .before .args .m in
     let f : SFits w64 (m .answer) = search needs in
-    ap₂ (λ answer tables. replyWith tables (m .fields) answer (m .policy)) (toZ-ofZ {w = w64} f) (c .before .with-job .ensures)))
+    let e = c .before .with-job .ensures in
+    ap₂ (λ answer tables. replyWith tables (m .fields) answer (m .policy)) (toZ-ofZ {w = w64} f) e))

@@ -16,5 +16,5 @@ both-moved-spec =
     (λ c κs. search needs)
     (λ c.
     let f : SFits w64 (c .before .before .before .before .args .m .answer) = search needs in
-    simp (toZ-ofZ {w = w64} f, c .before .before .with-thread .ensures, c .before .before .before .with-process .ensures)
-    at (c .answered .ensures)))
+    let e = c .before .before .before .with-process .ensures in
+    simp (toZ-ofZ {w = w64} f, c .before .before .with-thread .ensures, e) at (c .answered .ensures)))
