@@ -1,4 +1,7 @@
-use Rattle.laws.proofs.Flow.{branches}
+use mathlib.Core.Path.{ap, refl}
+use Rattle.laws.proofs.Flow.{first, second, told}
+use Rattle.record_job.specs.declared.Job.{Job}
+use Rattle.records.specs.declared.tables.FoundJob.the-variants.{OldJob}
 use Rattle.records.specs.Tables.{foundJob}
 use borrow.Author.Needs.{needs}
 use Rattle.lookup.proofs.job.Statement.{statement}
@@ -10,5 +13,9 @@ job-spec =
     tie.close
     (tie.spec
     (λ c κs. search needs)
-    (λ c. rw (← c .before .job-at .ensures) (search branches))
-    (λ c. rw (← c .before .job-at .ensures) (search branches)))
+    (λ c.
+    let e = c .before .job-at .ensures in
+    first _ _ (told (ap (λ (x : Job). x .made) e) (c .if1 .taken)) (ap OldJob e))
+    (λ c.
+    let e = c .before .job-at .ensures in
+    second _ _ (told (ap (λ (x : Job). x .made) e) (c .if1 .left)) refl))

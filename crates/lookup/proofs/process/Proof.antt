@@ -1,4 +1,7 @@
-use Rattle.laws.proofs.Flow.{branches}
+use mathlib.Core.Path.{ap, refl}
+use Rattle.laws.proofs.Flow.{first, second, told}
+use Rattle.record_process.specs.declared.Process.{Process}
+use Rattle.records.specs.declared.tables.FoundProcess.the-variants.{OldProcess}
 use Rattle.records.specs.Tables.{foundProcess}
 use borrow.Author.Needs.{needs}
 use Rattle.lookup.proofs.process.Statement.{statement}
@@ -10,5 +13,9 @@ process-spec =
     tie.close
     (tie.spec
     (λ c κs. search needs)
-    (λ c. rw (← c .before .process-at .ensures) (search branches))
-    (λ c. rw (← c .before .process-at .ensures) (search branches)))
+    (λ c.
+    let e = c .before .process-at .ensures in
+    first _ _ (told (ap (λ (x : Process). x .made) e) (c .if1 .taken)) (ap OldProcess e))
+    (λ c.
+    let e = c .before .process-at .ensures in
+    second _ _ (told (ap (λ (x : Process). x .made) e) (c .if1 .left)) refl))

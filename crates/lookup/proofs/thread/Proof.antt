@@ -1,4 +1,7 @@
-use Rattle.laws.proofs.Flow.{branches}
+use mathlib.Core.Path.{ap, refl}
+use Rattle.laws.proofs.Flow.{first, second, told}
+use Rattle.record_thread.specs.declared.Thread.{Thread}
+use Rattle.records.specs.declared.tables.FoundThread.the-variants.{OldThread}
 use Rattle.records.specs.Tables.{foundThread}
 use borrow.Author.Needs.{needs}
 use Rattle.lookup.proofs.thread.Statement.{statement}
@@ -10,5 +13,9 @@ thread-spec =
     tie.close
     (tie.spec
     (λ c κs. search needs)
-    (λ c. rw (← c .before .thread-at .ensures) (search branches))
-    (λ c. rw (← c .before .thread-at .ensures) (search branches)))
+    (λ c.
+    let e = c .before .thread-at .ensures in
+    first _ _ (told (ap (λ (x : Thread). x .made) e) (c .if1 .taken)) (ap OldThread e))
+    (λ c.
+    let e = c .before .thread-at .ensures in
+    second _ _ (told (ap (λ (x : Thread). x .made) e) (c .if1 .left)) refl))
