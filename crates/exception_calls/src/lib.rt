@@ -23,7 +23,7 @@ pub fn handle_exception(t: Tables, thread: u8, kind: u16) -> Reply
     let FoundThread::OldThread(v) = lookup::thread(t, thread) else {
         return Reply::answered(t, Refusal::NOT_MADE);
     };
-    if !v.is_free() {
+    if !thread_state::is_free(v) {
         return Reply::answered(t, Refusal::OUT_OF_TURN);
     }
     handling::raise(t, thread, kind)
@@ -39,7 +39,7 @@ pub fn close(t: Tables, thread: u8) -> Reply
     let FoundThread::OldThread(v) = lookup::thread(t, thread) else {
         return Reply::answered(t, Refusal::NOT_MADE);
     };
-    let FoundException::Held(e) = v.exception() else {
+    let FoundException::Held(e) = thread_state::exception(v) else {
         return Reply::answered(t, Refusal::OUT_OF_TURN);
     };
     handling::close(t, thread, e)

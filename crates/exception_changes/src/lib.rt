@@ -349,7 +349,7 @@ pub fn raise(t: Tables, thread: u8, kind: u16) -> Change
     if !v.made {
         return c;
     }
-    if !v.is_free() {
+    if !thread_state::is_free(v) {
         return c;
     }
     if kind == ExceptionType::THREAD_EXITING {
@@ -375,7 +375,7 @@ pub fn close(t: Tables, thread: u8) -> Change
 {
     let c = unchanged(t, 0, 0, thread, 0);
     let v = c.thread;
-    let FoundException::Held(e) = v.exception() else {
+    let FoundException::Held(e) = thread_state::exception(v) else {
         return c;
     };
     if 128 <= thread {

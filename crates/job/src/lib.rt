@@ -30,7 +30,7 @@ fn is_live_process(v: Process) -> bool
 {
     let status = v.status;
     if v.made {
-        return !status.is_exited();
+        return !process_status::is_exited(status);
     }
     false
 }
@@ -91,7 +91,7 @@ pub fn end_process(mut t: Tables, p: u8) -> Tables
     match critical {
         Critical::Free => t,
         Critical::To { job, nonzero } => {
-            if record_process::binding_acts(nonzero, code) {
+            if process_status::binding_acts(nonzero, code) {
                 kill_job(t, job)
             } else {
                 t

@@ -41,7 +41,7 @@ pub fn at_or_above(t: Tables, j: u8, i: u8) -> bool
 }
 
 // Whether job j is killed and lists nothing.
-pub fn may_terminate(t: Tables, j: u8) -> bool
+fn may_terminate(t: Tables, j: u8) -> bool
     ensures { λ r. ⌜ r ≡ mayTerminate t j ⌝ }
 {
     let job = job_at(t, j);

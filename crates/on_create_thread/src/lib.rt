@@ -28,7 +28,7 @@ pub fn create_thread(process: u8, new: u8, q: Process, v: Thread) -> Both
         return pair(q, v, Refusal::USED);
     }
     let status = old.status;
-    if status.is_exited() {
+    if process_status::is_exited(status) {
         return pair(q, v, ZxError::BAD_STATE);
     }
     pair(q, Thread::new(process), 0)

@@ -24,7 +24,7 @@ pub fn set_state(thread: u8, v: Thread, state: u32) -> Move
     let FoundThread::OldThread(w) = found(v) else {
         return answered(v, Refusal::NOT_MADE);
     };
-    let FoundException::Held(e) = w.exception() else {
+    let FoundException::Held(e) = thread_state::exception(w) else {
         return answered(v, Refusal::OUT_OF_TURN);
     };
     if 1 < state {
@@ -56,7 +56,7 @@ pub fn set_strategy(thread: u8, v: Thread, strategy: u32) -> Move
     let FoundThread::OldThread(w) = found(v) else {
         return answered(v, Refusal::NOT_MADE);
     };
-    let FoundException::Held(e) = w.exception() else {
+    let FoundException::Held(e) = thread_state::exception(w) else {
         return answered(v, Refusal::OUT_OF_TURN);
     };
     if 1 < strategy {
@@ -79,7 +79,7 @@ pub fn get_process_handle(thread: u8, v: Thread) -> Move
     let FoundThread::OldThread(w) = found(v) else {
         return answered(v, Refusal::NOT_MADE);
     };
-    let FoundException::Held(e) = w.exception() else {
+    let FoundException::Held(e) = thread_state::exception(w) else {
         return answered(v, Refusal::OUT_OF_TURN);
     };
     let place = e.place;

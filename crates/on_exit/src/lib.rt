@@ -54,7 +54,7 @@ pub fn exit(process: u8, q: Process) -> Early
         return decided(q, Refusal::NOT_MADE);
     };
     let status = q.status;
-    if status.is_exited() {
+    if process_status::is_exited(status) {
         return decided(q, 0);
     }
     left_open(q)
@@ -82,7 +82,7 @@ pub fn set_critical_at_job(process: u8, job: u8, flag: u8, q: Process, j: Job) -
         return decided(q, Refusal::NOT_MADE);
     };
     let critical = w.critical;
-    if critical.is_bound() {
+    if process_status::is_bound(critical) {
         return decided(q, ZxError::ALREADY_BOUND);
     }
     left_open(q)

@@ -27,8 +27,8 @@ fn fields_of(q: Process) -> Fields
     let level1 = q.level1;
     Fields::ProcessFields {
         code: status.code(),
-        started: !status.is_init(),
-        exited: status.is_exited(),
+        started: !process_status::is_init(status),
+        exited: process_status::is_exited(status),
         debugger: level1.is_bound(),
         terminated: q.terminated,
     }

@@ -71,7 +71,7 @@ pub fn finish(thread: u8, v: Thread) -> Early
     let FoundThread::OldThread(w) = found(v) else {
         return decided(v, Refusal::NOT_MADE);
     };
-    if !w.is_free() {
+    if !thread_state::is_free(w) {
         return decided(v, Refusal::OUT_OF_TURN);
     }
     undecided(v)
@@ -90,7 +90,7 @@ pub fn handle_exception(thread: u8, v: Thread, kind: u16) -> Early
     let FoundThread::OldThread(w) = found(v) else {
         return decided(v, Refusal::NOT_MADE);
     };
-    if !w.is_free() {
+    if !thread_state::is_free(w) {
         return decided(v, Refusal::OUT_OF_TURN);
     }
     if kind == ExceptionType::THREAD_EXITING {
@@ -112,7 +112,7 @@ pub fn close(thread: u8, v: Thread) -> Early
     let FoundThread::OldThread(w) = found(v) else {
         return decided(v, Refusal::NOT_MADE);
     };
-    let FoundException::Held(e) = w.exception() else {
+    let FoundException::Held(e) = thread_state::exception(w) else {
         return decided(v, Refusal::OUT_OF_TURN);
     };
     if is_over(e) {

@@ -36,7 +36,7 @@ pub fn start(process: u8, thread: u8, q: Process, v: Thread) -> Both
         return pair(q, v, ZxError::ACCESS_DENIED);
     }
     let status = old.status;
-    if !status.is_init() {
+    if !process_status::is_init(status) {
         return pair(q, v, ZxError::BAD_STATE);
     }
     pair(old.with_status(Status::Running), w.start(), 0)

@@ -52,7 +52,7 @@ pub fn exit(thread: u8, v: Thread) -> Move
     let FoundThread::OldThread(w) = found(v) else {
         return answered(v, Refusal::NOT_MADE);
     };
-    if !w.is_free() {
+    if !thread_state::is_free(w) {
         return answered(v, Refusal::OUT_OF_TURN);
     }
     answered(w.exit(), 0)
@@ -84,7 +84,7 @@ pub fn get_thread_info(thread: u8, v: Thread) -> Move
     };
     let waiting = w.waiting;
     let fields = Fields::ThreadFields {
-        state: w.state(),
+        state: thread_state::state(w),
         level: waiting_level(waiting),
         suspends: w.suspends,
     };

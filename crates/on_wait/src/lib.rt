@@ -41,7 +41,7 @@ pub fn begin_wait(thread: u8, v: Thread, state: u16) -> Move
     let FoundThread::OldThread(w) = found(v) else {
         return answered(v, Refusal::NOT_MADE);
     };
-    if !w.is_free() {
+    if !thread_state::is_free(w) {
         return answered(v, Refusal::OUT_OF_TURN);
     }
     if w.state == ThreadState::DYING {
@@ -91,7 +91,7 @@ pub fn poll_wait(thread: u8, v: Thread, ready: u8) -> Move
     let FoundThread::OldThread(w) = found(v) else {
         return answered(v, Refusal::NOT_MADE);
     };
-    if !w.is_in_wait() {
+    if !thread_state::is_in_wait(w) {
         return answered(v, Refusal::OUT_OF_TURN);
     }
     if is_pending(w, ready) {

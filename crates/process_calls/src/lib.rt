@@ -84,7 +84,7 @@ pub fn finish(t: Tables, thread: u8) -> Reply
     let FoundThread::OldThread(v) = lookup::thread(t, thread) else {
         return Reply::answered(t, Refusal::NOT_MADE);
     };
-    if !v.is_free() {
+    if !thread_state::is_free(v) {
         return Reply::answered(t, Refusal::OUT_OF_TURN);
     }
     Reply::answered(finish_thread(t, thread), 0)

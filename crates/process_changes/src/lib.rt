@@ -54,7 +54,7 @@ pub fn exit(t: Tables, process: u8, code: i64) -> Change
         return c;
     }
     let status = q.status;
-    if status.is_exited() {
+    if process_status::is_exited(status) {
         return c;
     }
     let exited = q.with_status(Status::Exited(code));
@@ -64,7 +64,7 @@ pub fn exit(t: Tables, process: u8, code: i64) -> Change
         return c.answered(0);
     }
     let critical = q.critical;
-    if critical.is_bound() {
+    if process_status::is_bound(critical) {
         return c;
     }
     if rows::job_in(jobs, q.job).killed {

@@ -44,7 +44,7 @@ pub fn set_critical_at_job(t: Tables, process: u8, job: u8, flag: u8) -> Reply
         return Reply::answered(t, Refusal::NOT_MADE);
     };
     let critical = q.critical;
-    if critical.is_bound() {
+    if process_status::is_bound(critical) {
         return Reply::answered(t, ZxError::ALREADY_BOUND);
     }
     if !at_or_above(t, job, q.job) {

@@ -54,7 +54,7 @@ pub fn set_critical_at_job(t: Tables, process: u8, job: u8, flag: u8) -> Change
         return c;
     }
     let critical = q.critical;
-    if critical.is_bound() {
+    if process_status::is_bound(critical) {
         return c;
     }
     if !at_or_above(jobs, job, q.job) {
@@ -77,7 +77,7 @@ pub fn finish(t: Tables, thread: u8) -> Change
     if !v.made {
         return c;
     }
-    if !v.is_free() {
+    if !thread_state::is_free(v) {
         return c;
     }
     let w = v.finish();

@@ -1,8 +1,7 @@
 // record_process: the record of a process. The policy fixed at its making stands in a table of its own, beside the processes.
 ghost use mathlib.Core.Path.{_≡_};
-ghost use Rattle.record_process.specs.Process.{noProcess, newProcess, isInit, isExited};
-ghost use Rattle.record_process.specs.Process.{codeOf, withStatus, ended, bindTo};
-ghost use Rattle.record_process.specs.Process.{isCritical, acts, withLevel1, withLevel3};
+ghost use Rattle.record_process.specs.Process.{noProcess, newProcess, codeOf, withStatus};
+ghost use Rattle.record_process.specs.Process.{ended, bindTo, withLevel1, withLevel3};
 ghost use Rattle.record_process.specs.Process.{memberOf};
 use record_exception::Level;
 
@@ -33,26 +32,6 @@ pub struct Process {
 }
 
 impl Status {
-    pub fn is_init(self) -> bool
-        ensures { λ r. ⌜ r ≡ isInit self ⌝ }
-    {
-        match self {
-            Status::Init => true,
-            Status::Running => false,
-            Status::Exited(_) => false,
-        }
-    }
-
-    pub fn is_exited(self) -> bool
-        ensures { λ r. ⌜ r ≡ isExited self ⌝ }
-    {
-        match self {
-            Status::Init => false,
-            Status::Running => false,
-            Status::Exited(_) => true,
-        }
-    }
-
     // The code, 0 unless Exited.
     pub fn code(self) -> i64
         ensures { λ r. ⌜ r ≡ codeOf self ⌝ }
@@ -63,24 +42,6 @@ impl Status {
             Status::Exited(code) => code,
         }
     }
-}
-
-impl Critical {
-    pub fn is_bound(self) -> bool
-        ensures { λ r. ⌜ r ≡ isCritical self ⌝ }
-    {
-        match self {
-            Critical::Free => false,
-            Critical::To { job: _, nonzero: _ } => true,
-        }
-    }
-}
-
-// Whether a binding acts at the end of a process with this code.
-pub fn binding_acts(nonzero: bool, code: i64) -> bool
-    ensures { λ r. ⌜ r ≡ acts nonzero code ⌝ }
-{
-    if nonzero { code != 0 } else { true }
 }
 
 impl Process {

@@ -1,8 +1,6 @@
 // record_thread: the record of a thread, and what a single call does to it. States are numbers, as in ThreadState.
 ghost use mathlib.Core.Path.{_≡_};
-ghost use Rattle.record_thread.specs.Thread.{noThread, newThread, hides, shownState};
-ghost use Rattle.record_thread.specs.Thread.{signalsOf, signals, isLive, isIdle, isFree};
-ghost use Rattle.record_thread.specs.Thread.{isInWait, exceptionOf, threadOf};
+ghost use Rattle.record_thread.specs.Thread.{noThread, newThread, threadOf};
 ghost use Rattle.record_thread.specs.Thread.{withoutException, start, kill, exit, finish};
 ghost use Rattle.record_thread.specs.Thread.{suspend, resume, waits, endWait, withLevel2};
 use record_exception::Exception;
@@ -83,38 +81,6 @@ pub enum FoundException {
 
 // -- Tests ---------------------------------------------------------------------------------
 
-// Whether a stored state hides the suspend count.
-fn hides(state: u16) -> bool
-    ensures { λ r. ⌜ r ≡ hides state ⌝ }
-{
-    if state == ThreadState::BLOCKED_EXCEPTION {
-        return true;
-    }
-    if state == ThreadState::DYING {
-        return true;
-    }
-    state == ThreadState::DEAD
-}
-
-// The signals of a shown state.
-fn signals_of(shown: u16) -> Signals
-    ensures { λ r. ⌜ r ≡ signalsOf shown ⌝ }
-{
-    if shown == ThreadState::NEW {
-        return Signals::NoSignal;
-    }
-    if shown == ThreadState::SUSPENDED {
-        return Signals::SuspendedSignal;
-    }
-    if shown == ThreadState::DYING {
-        return Signals::NoSignal;
-    }
-    if shown == ThreadState::DEAD {
-        return Signals::TerminatedSignal;
-    }
-    Signals::RunningSignal
-}
-
 // What is left of a wait when the thread is stopped: a plain wait stays until it is polled, an exception is gone.
 fn without_exception(waiting: Waiting) -> Waiting
     ensures { λ r. ⌜ r ≡ withoutException waiting ⌝ }
@@ -127,79 +93,6 @@ fn without_exception(waiting: Waiting) -> Waiting
 }
 
 impl Thread {
-    // The shown state: Suspended over any stored state but BlockedException, Dying and Dead.
-    pub fn state(self) -> u16
-        ensures { λ r. ⌜ r ≡ shownState self ⌝ }
-    {
-        if self.suspends == 0 {
-            return self.state;
-        }
-        if hides(self.state) {
-            return self.state;
-        }
-        ThreadState::SUSPENDED
-    }
-
-    // The signals follow the shown state.
-    pub fn signals(self) -> Signals
-        ensures { λ r. ⌜ r ≡ signals self ⌝ }
-    {
-        signals_of(self.state())
-    }
-
-    // Whether it was started and has not finished.
-    fn is_live(self) -> bool
-        ensures { λ r. ⌜ r ≡ isLive self ⌝ }
-    {
-        if self.started {
-            return self.state != ThreadState::DEAD;
-        }
-        false
-    }
-
-    fn is_idle(self) -> bool
-        ensures { λ r. ⌜ r ≡ isIdle self ⌝ }
-    {
-        let waiting = self.waiting;
-        match waiting {
-            Waiting::NotWaiting => true,
-            Waiting::InWait => false,
-            Waiting::InException(_) => false,
-        }
-    }
-
-    // Whether it can act by itself: live and not waiting.
-    pub fn is_free(self) -> bool
-        ensures { λ r. ⌜ r ≡ isFree self ⌝ }
-    {
-        if self.is_live() {
-            return self.is_idle();
-        }
-        false
-    }
-
-    pub fn is_in_wait(self) -> bool
-        ensures { λ r. ⌜ r ≡ isInWait self ⌝ }
-    {
-        let waiting = self.waiting;
-        match waiting {
-            Waiting::NotWaiting => false,
-            Waiting::InWait => true,
-            Waiting::InException(_) => false,
-        }
-    }
-
-    pub fn exception(self) -> FoundException
-        ensures { λ r. ⌜ r ≡ exceptionOf self ⌝ }
-    {
-        let waiting = self.waiting;
-        match waiting {
-            Waiting::NotWaiting => FoundException::NoException,
-            Waiting::InWait => FoundException::NoException,
-            Waiting::InException(e) => FoundException::Held(e),
-        }
-    }
-
     // Whether it is on the list of the process of this name.
     pub fn thread_of(self, name: u8) -> bool
         ensures { λ r. ⌜ r ≡ threadOf self name ⌝ }

@@ -1,4 +1,2 @@
--- What the proofs of the recorder cite.
-pub mod Parts
+-- What the proof of `feed` cites.
 pub mod Storing
-pub mod Feeding

@@ -1,35 +1,16 @@
 // recorder: a stream of commands, taken in parts of any size, and the lines that are written for it.
-// specs/Recorder.antt says what is written for a part; that no cut into parts changes the whole is in `stream`.
+// feeding/specs/Recorder.antt says what is written for a part; that no cut into parts changes the whole is in `stream`.
 ghost use mathlib.Core.Path.{_≡_};
 ghost use Prim.Native.Nat.{_≤_};
 ghost use lib.ListN.{length};
 ghost use Rattle.io.specs.Counts.{Counts};
-ghost use Rattle.recorder.specs.Recorder.{fedAt, fed, Feeds};
+ghost use Rattle.feeding.specs.Recorder.{fed, Feeds};
 use commands::Next;
+use feeding::Fed;
+use feeding::fed_at;
 use job_policy::JobPolicy;
-use records::tables::Tables;
 use stream_state::LINE;
 use stream_state::State;
-
-// How far a call of `feed` came.
-pub struct Fed {
-    pub state: State,
-    pub consumed: usize,
-    pub written: usize,
-    // Whether the stream has ended at what is no command.
-    pub finished: bool,
-}
-
-fn fed_at(tables: Tables, number: u64, consumed: usize, written: usize, finished: bool) -> Fed
-    ensures { λ r. ⌜ r ≡ fedAt tables number consumed written finished ⌝ }
-{
-    Fed {
-        state: State { tables, number },
-        consumed,
-        written,
-        finished,
-    }
-}
 
 // Performs whole commands from the front of `input` while `out` has room for a line, and says how far it came.
 pub fn feed(state: State, input: &[u8], out: &mut [u8]) -> Fed

@@ -14,7 +14,7 @@ use Rattle.commands.proofs.Stays.{left-less}
 use Rattle.calls.specs.Calls.{callIn}
 use Rattle.stream_state.specs.declared.State.{State}
 use Rattle.stream_state.specs.State.{stopAt, closing}
-use Rattle.recorder.specs.Recorder.{onNext, after, line}
+use Rattle.feeding.specs.Recorder.{onNext, after, line}
 use Rattle.stream.specs.Stream.{transcriptWithin, transcript, callsWithin, callsIn}
 use Rattle.stream.specs.Stream.{leftWithin, leftIn, linesFrom}
 

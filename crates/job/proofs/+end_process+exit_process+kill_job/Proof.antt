@@ -42,7 +42,7 @@ use Rattle.record_job.proofs.Job.killed.Reads as killed-reads
 use Rattle.record_process.proofs.Process.member_of.Reads as member-of-reads
 use Rattle.record_process.proofs.Process.with_status.Reads as with-status-reads
 use Rattle.record_process.proofs.Status.code.Reads as code-reads
-use Rattle.record_process.proofs.binding_acts.Reads as binding-acts-reads
+use Rattle.process_status.proofs.binding_acts.Reads as binding-acts-reads
 use Rattle.reading.proofs.job_at.Reads as job-at-reads
 use Rattle.reading.proofs.process_at.Reads as process-at-reads
 use Rattle.records.proofs.tables.Tables.with_job.Reads as with-job-reads

@@ -13,7 +13,7 @@ use mir.Val.{SFits}
 use mir.Facts.{toZ-ofZ}
 use Rattle.stream_state.specs.declared.State.{State}
 use Rattle.stream_state.specs.State.{nextNumber, stateOf}
-use Rattle.recorder.specs.Recorder.{fed, ahead}
+use Rattle.feeding.specs.Recorder.{fed, ahead}
 use Rattle.laws.proofs.Loops.{length-mapped}
 use Rattle.records.specs.Tables.{Sized}
 use Rattle.slots.specs.declared.Slots.{Slots}
@@ -26,7 +26,7 @@ use Rattle.change.specs.declared.Change.{Change}
 use Rattle.change.specs.Change.{storingRecords, stored}
 use Rattle.recorder.proofs.Storing.{holds, holds-there, stored-sized, records-sized, spread-sized}
 use Rattle.recorder.proofs.Storing.{stored-alone, stored-spread}
-use Rattle.recorder.proofs.Feeding.{begins, full, waits, stops, goes, whole-fits, as-lined}
+use Rattle.feeding.proofs.Feeding.{begins, full, waits, stops, goes, whole-fits, as-lined}
 use Rattle.recorder.proofs.feed.Statement.{statement}
 use Rattle.recorder.proofs.feed.Tie as tie
 
