@@ -9,8 +9,8 @@ use commands::half_at;
 use commands::value_at;
 use commands::word_at;
 use job_policy::TimerSlackPolicy;
-use records::reply::Reply;
 use records::tables::Tables;
+use reply::Reply;
 
 // 10, with its amount and mode.
 fn set_slack(t: Tables, s: &[u8]) -> Reply

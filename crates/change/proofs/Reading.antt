@@ -18,7 +18,7 @@ use Rattle.record_thread.specs.Thread.{noThread}
 use Rattle.record_token.specs.declared.SuspendToken.{SuspendToken}
 use Rattle.record_token.specs.SuspendToken.{noToken}
 use Rattle.records.specs.declared.tables.Tables.{Tables}
-use Rattle.records.specs.declared.reply.Fields.the-variants.{NoFields}
+use Rattle.reply.specs.declared.Fields.the-variants.{NoFields}
 use Rattle.records.specs.Tables.{jobAt, ownAt, inheritedAt, processAt, fixedAt, threadAt, tokenAt}
 use Rattle.change.specs.declared.Change.{Change}
 use Rattle.change.specs.Change.{unchanged}

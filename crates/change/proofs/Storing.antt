@@ -27,9 +27,9 @@ use Rattle.record_thread.specs.Thread.{noThread}
 use Rattle.record_token.specs.declared.SuspendToken.{SuspendToken}
 use Rattle.record_token.specs.SuspendToken.{noToken}
 use Rattle.records.specs.declared.tables.Tables.{Tables}
-use Rattle.records.specs.declared.reply.Fields.{Fields}
-use Rattle.records.specs.declared.reply.Fields.the-variants.{NoFields}
-use Rattle.records.specs.Reply.{reply, answered}
+use Rattle.reply.specs.declared.Fields.{Fields}
+use Rattle.reply.specs.declared.Fields.the-variants.{NoFields}
+use Rattle.reply.specs.Reply.{reply, answered}
 use Rattle.records.specs.Tables.{jobAt, ownAt, inheritedAt, processAt, fixedAt, threadAt, tokenAt}
 use Rattle.records.specs.Tables.{putJob, putOwn, putInherited, putProcess, putFixed, putThread}
 use Rattle.records.specs.Tables.{putToken, withThreads}

@@ -7,8 +7,8 @@ use record_job::Job;
 use record_process::Process;
 use record_thread::Thread;
 use record_token::SuspendToken;
-use records::reply::Fields;
 use records::tables::Tables;
+use reply::Fields;
 
 // A record of each table, under the names j, p, n and k, with the policies beside it.
 pub struct Change {

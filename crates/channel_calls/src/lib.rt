@@ -6,8 +6,8 @@ use error::Refusal;
 use error::ZxError;
 use owners::FoundLevel;
 use record_exception::Level;
-use records::reply::Reply;
 use records::tables::Tables;
+use reply::Reply;
 
 // A level outside 1 to 5.
 fn bad_level(level: u8) -> bool

@@ -17,8 +17,8 @@ use Rattle.record_process.specs.Process.{KILL-CODE, newProcess, isExited, codeO
 use Rattle.record_thread.specs.declared.Thread.{Thread}
 use Rattle.record_thread.specs.Thread.{newThread, finish}
 use Rattle.records.specs.declared.tables.Tables.{Tables}
-use Rattle.records.specs.declared.reply.Reply.{Reply}
-use Rattle.records.specs.Reply.{answered}
+use Rattle.reply.specs.declared.Reply.{Reply}
+use Rattle.reply.specs.Reply.{answered}
 use Rattle.records.specs.Tables.{freshTables, jobAt, processAt, threadAt, putProcess, putThread}
 use Rattle.records.specs.Tables.{foundJob}
 use Rattle.model.specs.Replies.{oldJob, job}

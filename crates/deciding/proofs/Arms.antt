@@ -11,8 +11,8 @@ use lib.IntN.{ℤ}
 use borrow.Author.Tests.{lt-ltb}
 use Rattle.laws.specs.Choice.{_or_, _=?_, if_then_else_}
 use Rattle.records.specs.declared.tables.Tables.{Tables}
-use Rattle.records.specs.declared.reply.Reply.{Reply}
-use Rattle.records.specs.Reply.{reply, answered}
+use Rattle.reply.specs.declared.Reply.{Reply}
+use Rattle.reply.specs.Reply.{reply, answered}
 use Rattle.records.specs.Tables.{jobAt, processAt, threadAt, putJob, putProcess, putThread}
 use Rattle.commands.specs.Commands.{byte}
 use Rattle.model.specs.ExceptionCalls.{badLevel}

@@ -11,9 +11,9 @@ use Rattle.record_job.specs.declared.Job.{Job}
 use Rattle.record_process.specs.declared.Process.{Process}
 use Rattle.record_thread.specs.declared.Thread.{Thread}
 use Rattle.records.specs.declared.tables.Tables.{Tables}
-use Rattle.records.specs.declared.reply.Fields.the-variants.{NoFields}
-use Rattle.records.specs.declared.reply.Reply.{Reply}
-use Rattle.records.specs.Reply.{replyWith}
+use Rattle.reply.specs.declared.Fields.the-variants.{NoFields}
+use Rattle.reply.specs.declared.Reply.{Reply}
+use Rattle.reply.specs.Reply.{replyWith}
 use Rattle.records.specs.Tables.{jobAt, processAt, threadAt, ownAt, inheritedAt, fixedAt}
 use Rattle.records.specs.Tables.{putJob, putProcess, putThread}
 use Rattle.model.specs.Step.{step}

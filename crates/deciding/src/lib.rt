@@ -14,7 +14,7 @@ use job_policy::JobPolicy;
 use record_job::Job;
 use record_process::Process;
 use record_thread::Thread;
-use records::reply::Fields;
+use reply::Fields;
 
 // What a command comes to: its answer, and the records named as they are after it.
 pub struct Decided {

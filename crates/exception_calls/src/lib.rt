@@ -4,9 +4,9 @@ ghost use mathlib.Core.Path.{_≡_};
 ghost use Rattle.model.specs.ExceptionCalls.{raiseException, closeException};
 use error::Refusal;
 use record_thread::FoundException;
-use records::reply::Reply;
 use records::tables::FoundThread;
 use records::tables::Tables;
+use reply::Reply;
 use routes::is_no_type;
 use routes::route_of;
 

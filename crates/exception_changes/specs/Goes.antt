@@ -23,7 +23,7 @@ use Rattle.record_thread.specs.declared.Waiting.the-variants.{InException}
 use Rattle.record_thread.specs.declared.Thread.{Thread}
 use Rattle.record_thread.specs.Thread.{BLOCKED-EXCEPTION, waits, endWait}
 use Rattle.records.specs.declared.tables.Tables.{Tables}
-use Rattle.records.specs.declared.reply.Fields.the-variants.{OwnerField}
+use Rattle.reply.specs.declared.Fields.the-variants.{OwnerField}
 use Rattle.model.specs.declared.Route.{Route}
 use Rattle.model.specs.declared.Route.the-variants.{Ordinary, JobDebuggers, DebuggerOnly}
 use Rattle.model.specs.declared.Route.the-variants.{ToExiting, NoType}

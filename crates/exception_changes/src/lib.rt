@@ -10,7 +10,7 @@ ghost use Rattle.exception_changes.specs.Goes.{nextGoes, jobOf, isHungUp
 ghost use Rattle.exception_changes.specs.Goes.{ownerIn, waitsAt, endsNowhere, delivers, exitsTo};
 ghost use Rattle.exception_changes.specs.declared.Goes as Goes;
 ghost use Rattle.record_exception.specs.declared.Place as Place;
-ghost use Rattle.records.specs.declared.reply.Fields as Fields;
+ghost use Rattle.reply.specs.declared.Fields as Fields;
 ghost use Rattle.exception.specs.Places.{jobPlace};
 use change::Change;
 use change::unchanged;
@@ -28,8 +28,8 @@ use record_thread::FoundException;
 use record_thread::Thread;
 use record_thread::ThreadState;
 use record_thread::Waiting;
-use records::reply::Fields;
 use records::tables::Tables;
+use reply::Fields;
 use routes::is_no_type;
 use routes::route_of;
 use rows::job_in;

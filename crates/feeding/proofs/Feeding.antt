@@ -16,8 +16,8 @@ use lib.IntN.{ℤ}
 use Rattle.laws.specs.Choice.{if_then_else_}
 use Rattle.job_policy.specs.declared.JobPolicy.{JobPolicy}
 use Rattle.records.specs.declared.tables.Tables.{Tables}
-use Rattle.records.specs.declared.reply.Fields.{Fields}
-use Rattle.records.specs.declared.reply.Reply.{Reply}
+use Rattle.reply.specs.declared.Fields.{Fields}
+use Rattle.reply.specs.declared.Reply.{Reply}
 use Rattle.model.specs.Step.{step}
 use Rattle.commands.specs.declared.Next.{Next}
 use Rattle.commands.specs.declared.Next.the-variants.{Wait, Stop, Whole}

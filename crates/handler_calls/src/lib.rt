@@ -4,8 +4,8 @@ ghost use mathlib.Core.Path.{_≡_};
 ghost use Rattle.model.specs.ExceptionCalls.{setState, setStrategy};
 ghost use Rattle.model.specs.ExceptionCalls.{getProcessHandle};
 use reading::thread_at;
-use records::reply::Reply;
 use records::tables::Tables;
+use reply::Reply;
 
 // 16: `ExceptionObject::set_state`.
 pub fn set_state(t: Tables, thread: u8, state: u32) -> Reply

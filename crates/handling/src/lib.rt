@@ -21,9 +21,9 @@ use record_exception::Place;
 use record_process::Process;
 use record_thread::ThreadState;
 use record_thread::Waiting;
-use records::reply::Fields;
-use records::reply::Reply;
 use records::tables::Tables;
+use reply::Fields;
+use reply::Reply;
 use routes::route_of;
 
 // The exception is over: the thread runs again, unless Dying.

@@ -13,9 +13,9 @@ use reading::inherited_at;
 use reading::job_at;
 use reading::own_at;
 use record_job::Job;
-use records::reply::Reply;
 use records::tables::FoundJob;
 use records::tables::Tables;
+use reply::Reply;
 
 // The inherited policy is fixed when a job is made.
 fn with_child(t: Tables, job: u8, new: u8) -> Tables

@@ -12,7 +12,7 @@ use Rattle.record_job.specs.declared.Job.{Job}
 use Rattle.record_job.specs.Job.{noJob}
 use Rattle.records.specs.declared.tables.Tables.{Tables}
 use Rattle.records.specs.declared.tables.FoundJob.{FoundJob}
-use Rattle.records.specs.Reply.{answered}
+use Rattle.reply.specs.Reply.{answered}
 use Rattle.records.specs.Tables.{jobAt, putJob, foundJob, withJobs}
 use Rattle.job_move.specs.declared.Move.{Move}
 use Rattle.job_move.specs.JobMove.{slot, move, foundIn, moved}

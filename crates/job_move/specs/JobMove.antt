@@ -11,9 +11,9 @@ use Rattle.record_job.specs.declared.Job.{Job}
 use Rattle.records.specs.declared.tables.Tables.{Tables}
 use Rattle.records.specs.declared.tables.FoundJob.{FoundJob}
 use Rattle.records.specs.declared.tables.FoundJob.the-variants.{NoJob, OldJob}
-use Rattle.records.specs.declared.reply.Fields.the-variants.{NoFields}
-use Rattle.records.specs.declared.reply.Reply.{Reply}
-use Rattle.records.specs.Reply.{replyWith}
+use Rattle.reply.specs.declared.Fields.the-variants.{NoFields}
+use Rattle.reply.specs.declared.Reply.{Reply}
+use Rattle.reply.specs.Reply.{replyWith}
 use Rattle.records.specs.Tables.{jobAt, ownAt, inheritedAt, putJob}
 use Rattle.model.specs.Job.{jobEmpty}
 use Rattle.job_move.specs.declared.Move.{Move}

@@ -4,10 +4,10 @@ ghost use mathlib.Core.Path.{_≡_};
 ghost use Rattle.job_move.specs.JobMove.{move, foundIn, moved};
 use job_policy::JobPolicy;
 use record_job::Job;
-use records::reply::Fields;
-use records::reply::Reply;
 use records::tables::FoundJob;
 use records::tables::Tables;
+use reply::Fields;
+use reply::Reply;
 
 // What a call comes to: its answer, fields and policy, and the job after it.
 pub struct Move {

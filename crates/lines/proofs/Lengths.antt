@@ -8,9 +8,9 @@ use mathlib.Core.Bool.{Bool, true, false}
 use lib.IntN.{ℤ, pos, negsuc}
 use lib.ListN.{length, length-append}
 use Rattle.job_policy.specs.declared.JobPolicy.{JobPolicy}
-use Rattle.records.specs.declared.reply.Fields.{Fields}
-use Rattle.records.specs.declared.reply.Fields.the-variants.{NoFields, OwnerField, JobFields}
-use Rattle.records.specs.declared.reply.Fields.the-variants.{ProcessFields, ThreadFields}
+use Rattle.reply.specs.declared.Fields.{Fields}
+use Rattle.reply.specs.declared.Fields.the-variants.{NoFields, OwnerField, JobFields}
+use Rattle.reply.specs.declared.Fields.the-variants.{ProcessFields, ThreadFields}
 use Rattle.lines.specs.Line.{signedText, flagText, policyChars, policyText}
 use Rattle.lines.specs.Line.{jobText, processText, threadText, fieldsText, lineOf, stopLine}
 use Rattle.lines.proofs.Numbers.{decimal-short}

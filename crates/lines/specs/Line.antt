@@ -11,9 +11,9 @@ use Rattle.job_policy.specs.Policy.{getAction}
 use Rattle.job_policy.specs.declared.JobPolicy.{JobPolicy}
 use Rattle.job_policy.specs.declared.ActionFound.{ActionFound}
 use Rattle.job_policy.specs.declared.ActionFound.the-variants.{Unset, Action}
-use Rattle.records.specs.declared.reply.Fields.{Fields}
-use Rattle.records.specs.declared.reply.Fields.the-variants.{NoFields, OwnerField, JobFields}
-use Rattle.records.specs.declared.reply.Fields.the-variants.{ProcessFields, ThreadFields}
+use Rattle.reply.specs.declared.Fields.{Fields}
+use Rattle.reply.specs.declared.Fields.the-variants.{NoFields, OwnerField, JobFields}
+use Rattle.reply.specs.declared.Fields.the-variants.{ProcessFields, ThreadFields}
 
 -- ---- Characters ----------------------------------------------------------------------------
 

@@ -6,7 +6,7 @@ ghost use Rattle.lines.specs.Line.{field, flagText, decimalText, signedT
 ghost use Rattle.lines.specs.Line.{jobText, processText, threadText, fieldsText};
 ghost use Rattle.lines.specs.Line.{lineOf, stopLine, Put};
 use job_policy::JobPolicy;
-use records::reply::Fields;
+use reply::Fields;
 
 mod texts;
 

@@ -30,8 +30,8 @@ use Rattle.records.specs.declared.tables.FoundThread.{FoundThread}
 use Rattle.records.specs.declared.tables.FoundThread.the-variants.{NoThread, OldThread}
 use Rattle.records.specs.declared.tables.FoundToken.{FoundToken}
 use Rattle.records.specs.declared.tables.FoundToken.the-variants.{NoToken, OldToken}
-use Rattle.records.specs.declared.reply.Reply.{Reply}
-use Rattle.records.specs.Reply.{answered}
+use Rattle.reply.specs.declared.Reply.{Reply}
+use Rattle.reply.specs.Reply.{answered}
 use Rattle.owners.specs.declared.FoundLevel.{FoundLevel}
 use Rattle.owners.specs.declared.FoundLevel.the-variants.{NoLevel, OldLevel}
 use Rattle.owners.specs.declared.FoundTask.{FoundTask}

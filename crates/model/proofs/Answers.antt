@@ -1,6 +1,6 @@
 -- `Answers` from `Outcomes`. Assumes nothing.
 use Rattle.records.specs.declared.tables.Tables.{Tables}
-use Rattle.records.specs.declared.reply.Reply.{Reply}
+use Rattle.reply.specs.declared.Reply.{Reply}
 use Rattle.model.specs.Step.{Call}
 use Rattle.model.specs.Answers.{Answered, Answers}
 use Rattle.model.proofs.Outcomes.{Outcome, refused, accepted, outcome}

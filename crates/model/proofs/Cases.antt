@@ -44,7 +44,7 @@ use Rattle.record_job.specs.Job.{childOf}
 use Rattle.record_process.specs.Process.{ended, acts, memberOf}
 use Rattle.record_thread.specs.Thread.{hides, shownState, isLive, isFree, threadOf, kill, exit}
 use Rattle.record_thread.specs.Thread.{suspend, resume, endWait}
-use Rattle.records.specs.Reply.{reply, answered}
+use Rattle.reply.specs.Reply.{reply, answered}
 use Rattle.records.specs.Tables.{freshTables, jobAt, ownAt, inheritedAt, processAt, fixedAt}
 use Rattle.records.specs.Tables.{threadAt, tokenAt, foundJob, foundProcess, foundThread}
 use Rattle.records.specs.Tables.{foundToken, putJob, putOwn, putInherited, putProcess, putFixed}

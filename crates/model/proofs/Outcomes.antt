@@ -24,9 +24,9 @@ use Rattle.records.specs.declared.tables.FoundThread.{FoundThread}
 use Rattle.records.specs.declared.tables.FoundThread.the-variants.{NoThread, OldThread}
 use Rattle.records.specs.declared.tables.FoundToken.{FoundToken}
 use Rattle.records.specs.declared.tables.FoundToken.the-variants.{NoToken, OldToken}
-use Rattle.records.specs.declared.reply.Fields.the-variants.{NoFields}
-use Rattle.records.specs.declared.reply.Reply.{Reply}
-use Rattle.records.specs.Reply.{reply, answered}
+use Rattle.reply.specs.declared.Fields.the-variants.{NoFields}
+use Rattle.reply.specs.declared.Reply.{Reply}
+use Rattle.reply.specs.Reply.{reply, answered}
 use Rattle.records.specs.Tables.{ownAt, inheritedAt, putOwn}
 use Rattle.owners.specs.declared.FoundLevel.{FoundLevel}
 use Rattle.owners.specs.declared.FoundLevel.the-variants.{NoLevel, OldLevel}

@@ -3,7 +3,7 @@ use mathlib.Core.Path.{_≡_}
 use mathlib.Core.Bool.{true}
 use Rattle.laws.proofs.Cases.{no-both}
 use Rattle.records.specs.declared.tables.Tables.{Tables}
-use Rattle.records.specs.declared.reply.Reply.{Reply}
+use Rattle.reply.specs.declared.Reply.{Reply}
 use Rattle.model.specs.Step.{Call}
 use Rattle.model.specs.Refusals.{isRefusal, Kept, Refusals}
 use Rattle.model.proofs.Outcomes.{Outcome, refused, accepted, outcome}

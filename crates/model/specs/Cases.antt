@@ -9,8 +9,8 @@ use lib.ListN.{replicate, set}
 use Rattle.laws.specs.Choice.{minus}
 use Rattle.job_policy.specs.Policy.{M1, M2, noPolicy}
 use Rattle.job_policy.specs.declared.BasicPolicy.{BasicPolicy}
-use Rattle.records.specs.declared.reply.Fields.the-variants.{NoFields, OwnerField, JobFields}
-use Rattle.records.specs.declared.reply.Fields.the-variants.{ProcessFields, ThreadFields}
+use Rattle.reply.specs.declared.Fields.the-variants.{NoFields, OwnerField, JobFields}
+use Rattle.reply.specs.declared.Fields.the-variants.{ProcessFields, ThreadFields}
 use Rattle.records.specs.Tables.{freshTables}
 use Rattle.model.specs.Step.{Call, cmd01, cmd02, cmd03, cmd04, cmd05, cmd06, cmd07, cmd08}
 use Rattle.model.specs.Step.{cmd09, cmd0a, cmd0b, cmd0c, cmd0d, cmd0e, cmd0f, cmd11, cmd12}

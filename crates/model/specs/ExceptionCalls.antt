@@ -12,7 +12,7 @@ use Rattle.record_thread.specs.declared.Waiting.the-variants.{InException}
 use Rattle.record_thread.specs.declared.Thread.{Thread}
 use Rattle.record_thread.specs.Thread.{isFree, waits}
 use Rattle.records.specs.declared.tables.Tables.{Tables}
-use Rattle.records.specs.declared.reply.Reply.{Reply}
+use Rattle.reply.specs.declared.Reply.{Reply}
 use Rattle.records.specs.Tables.{putThread}
 use Rattle.owners.specs.Owners.{ownersOf, putLevel}
 use Rattle.model.specs.Replies.{call, accept, thread, exception, channel}

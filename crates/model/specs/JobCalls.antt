@@ -23,9 +23,9 @@ use Rattle.record_process.specs.Process.{withStatus, isCritical, bindTo}
 use Rattle.record_thread.specs.declared.Thread.{Thread}
 use Rattle.record_thread.specs.Thread.{start, threadOf}
 use Rattle.records.specs.declared.tables.Tables.{Tables}
-use Rattle.records.specs.declared.reply.Fields.the-variants.{JobFields, ProcessFields}
-use Rattle.records.specs.declared.reply.Reply.{Reply}
-use Rattle.records.specs.Reply.{reply, replyWith}
+use Rattle.reply.specs.declared.Fields.the-variants.{JobFields, ProcessFields}
+use Rattle.reply.specs.declared.Reply.{Reply}
+use Rattle.reply.specs.Reply.{reply, replyWith}
 use Rattle.records.specs.Tables.{jobAt, processAt, fixedAt, putJob, putInherited, putProcess}
 use Rattle.records.specs.Tables.{putFixed, putThread}
 use Rattle.model.specs.Replies.{call, accept, job, process, thread}

@@ -14,8 +14,8 @@ use Rattle.job_policy.specs.declared.ActionFound.{ActionFound}
 use Rattle.job_policy.specs.declared.ActionFound.the-variants.{Unset, Action}
 use Rattle.job_policy.specs.Policy.{getAction, apply, merge, ALLOW, DENY}
 use Rattle.records.specs.declared.tables.Tables.{Tables}
-use Rattle.records.specs.declared.reply.Reply.{Reply}
-use Rattle.records.specs.Reply.{answered}
+use Rattle.reply.specs.declared.Reply.{Reply}
+use Rattle.reply.specs.Reply.{answered}
 use Rattle.records.specs.Tables.{ownAt, inheritedAt, putOwn}
 
 -- `Job::policy`: the inherited entries win

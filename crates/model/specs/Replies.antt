@@ -22,13 +22,13 @@ use Rattle.records.specs.declared.tables.FoundThread.{FoundThread}
 use Rattle.records.specs.declared.tables.FoundThread.the-variants.{NoThread, OldThread}
 use Rattle.records.specs.declared.tables.FoundToken.{FoundToken}
 use Rattle.records.specs.declared.tables.FoundToken.the-variants.{NoToken, OldToken}
-use Rattle.records.specs.declared.reply.Reply.{Reply}
+use Rattle.reply.specs.declared.Reply.{Reply}
 use Rattle.owners.specs.declared.FoundLevel.{FoundLevel}
 use Rattle.owners.specs.declared.FoundLevel.the-variants.{NoLevel, OldLevel}
 use Rattle.owners.specs.declared.FoundTask.{FoundTask}
 use Rattle.owners.specs.declared.FoundTask.the-variants.{NoTask, OldTask}
 use Rattle.owners.specs.Owners.{foundLevel, foundTask}
-use Rattle.records.specs.Reply.{answered}
+use Rattle.reply.specs.Reply.{answered}
 use Rattle.records.specs.Tables.{foundJob, foundProcess, foundThread, foundToken}
 
 -- a call is refused with a number, and the tables stay, or comes to the reply at its foot

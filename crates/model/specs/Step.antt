@@ -5,8 +5,8 @@ use lib.IntN.{ℤ}
 use Rattle.job_policy.specs.declared.BasicPolicy.{BasicPolicy}
 use Rattle.job_policy.specs.declared.JobPolicy.{JobPolicy}
 use Rattle.records.specs.declared.tables.Tables.{Tables}
-use Rattle.records.specs.declared.reply.Fields.{Fields}
-use Rattle.records.specs.declared.reply.Reply.{Reply}
+use Rattle.reply.specs.declared.Fields.{Fields}
+use Rattle.reply.specs.declared.Reply.{Reply}
 use Rattle.model.specs.JobCalls.{createChild, killJobCall, setPolicyBasic}
 use Rattle.model.specs.JobCalls.{setPolicyTimerSlack, jobInformation, createProcess}
 use Rattle.model.specs.JobCalls.{startProcess, exitProcessCall, killProcess}

@@ -14,9 +14,9 @@ use Rattle.record_thread.specs.Thread.{DYING, FULL, newThread, start, kill, exi
 use Rattle.record_thread.specs.Thread.{isFree, isInWait, waits, endWait}
 use Rattle.record_exception.specs.Exception.{currentLevel}
 use Rattle.records.specs.declared.tables.Tables.{Tables}
-use Rattle.records.specs.declared.reply.Fields.the-variants.{ThreadFields}
-use Rattle.records.specs.declared.reply.Reply.{Reply}
-use Rattle.records.specs.Reply.{reply, answered}
+use Rattle.reply.specs.declared.Fields.the-variants.{ThreadFields}
+use Rattle.reply.specs.declared.Reply.{Reply}
+use Rattle.reply.specs.Reply.{reply, answered}
 use Rattle.records.specs.Tables.{threadAt, tokenAt, putThread}
 use Rattle.owners.specs.Owners.{tasksOf}
 use Rattle.model.specs.Replies.{call, accept, process, thread, token, task}

@@ -12,7 +12,7 @@ use Rattle.laws.proofs.Cases.{no-both}
 use Rattle.record_process.specs.declared.Process.{Process}
 use Rattle.record_process.specs.Process.{isExited, KILL-CODE}
 use Rattle.records.specs.declared.tables.Tables.{Tables}
-use Rattle.records.specs.Reply.{answered}
+use Rattle.reply.specs.Reply.{answered}
 use Rattle.records.specs.Tables.{processAt}
 use Rattle.model.specs.Job.{exitStep, exitWithin, exitProcess}
 use Rattle.model.specs.JobCalls.{exitProcessCall, killProcess}

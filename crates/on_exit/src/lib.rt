@@ -11,9 +11,9 @@ use process_move::Move;
 use process_move::found;
 use record_job::Job;
 use record_process::Process;
-use records::reply::Fields;
 use records::tables::FoundJob;
 use records::tables::FoundProcess;
+use reply::Fields;
 
 // Decided: an answer, and the process stays.
 fn decided(q: Process, answer: i64) -> Early

@@ -14,8 +14,8 @@ use Rattle.job_policy.specs.declared.JobPolicy.{JobPolicy}
 use Rattle.job_policy.specs.Policy.{merge}
 use Rattle.record_job.specs.declared.Job.{Job}
 use Rattle.records.specs.declared.tables.Tables.{Tables}
-use Rattle.records.specs.declared.reply.Fields.{Fields}
-use Rattle.records.specs.Reply.{answered}
+use Rattle.reply.specs.declared.Fields.{Fields}
+use Rattle.reply.specs.Reply.{answered}
 use Rattle.records.specs.Tables.{jobAt, ownAt, inheritedAt}
 use Rattle.model.specs.Job.{killStep, killWithin, killJob}
 use Rattle.model.specs.JobPolicy.{policyOf}

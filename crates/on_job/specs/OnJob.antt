@@ -2,8 +2,8 @@
 use mathlib.Core.Bool.{true, false}
 use lib.IntN.{ℤ, pos}
 use Rattle.record_job.specs.declared.Job.{Job}
-use Rattle.records.specs.declared.reply.Fields.{Fields}
-use Rattle.records.specs.declared.reply.Fields.the-variants.{JobFields}
+use Rattle.reply.specs.declared.Fields.{Fields}
+use Rattle.reply.specs.declared.Fields.the-variants.{JobFields}
 use Rattle.job_move.specs.declared.Early.{Early}
 use Rattle.job_move.specs.JobMove.{move}
 

@@ -13,8 +13,8 @@ use job_move::found;
 use job_policy::JobPolicy;
 use job_policy::TimerSlackPolicy;
 use record_job::Job;
-use records::reply::Fields;
 use records::tables::FoundJob;
+use reply::Fields;
 
 // -- Showing -------------------------------------------------------------------------------
 

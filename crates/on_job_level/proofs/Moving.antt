@@ -13,7 +13,7 @@ use Rattle.record_job.specs.declared.Job.{Job}
 use Rattle.records.specs.declared.tables.Tables.{Tables}
 use Rattle.records.specs.declared.tables.FoundJob.{FoundJob}
 use Rattle.records.specs.declared.tables.FoundJob.the-variants.{NoJob, OldJob}
-use Rattle.records.specs.Reply.{answered}
+use Rattle.reply.specs.Reply.{answered}
 use Rattle.records.specs.Tables.{jobAt, putJob, foundJob}
 use Rattle.owners.specs.declared.FoundLevel.{FoundLevel}
 use Rattle.owners.specs.Owners.{ownersOf, jobLevel, levelOfJob, foundLevel, putLevel}

@@ -11,8 +11,8 @@ use Rattle.job_policy.specs.declared.JobPolicy.{JobPolicy}
 use Rattle.job_policy.specs.Policy.{getAction}
 use Rattle.record_process.specs.declared.Process.{Process}
 use Rattle.records.specs.declared.tables.Tables.{Tables}
-use Rattle.records.specs.declared.reply.Fields.{Fields}
-use Rattle.records.specs.Reply.{reply}
+use Rattle.reply.specs.declared.Fields.{Fields}
+use Rattle.reply.specs.Reply.{reply}
 use Rattle.records.specs.Tables.{processAt, fixedAt}
 use Rattle.model.specs.JobCalls.{processInfo}
 use Rattle.model.specs.JobPolicy.{panicsAt, isDenied}

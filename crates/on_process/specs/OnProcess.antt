@@ -3,8 +3,8 @@ use mathlib.Core.Bool.{not}
 use Rattle.record_exception.specs.Channel.{isBound}
 use Rattle.record_process.specs.declared.Process.{Process}
 use Rattle.record_process.specs.Process.{isInit, isExited, codeOf}
-use Rattle.records.specs.declared.reply.Fields.{Fields}
-use Rattle.records.specs.declared.reply.Fields.the-variants.{ProcessFields}
+use Rattle.reply.specs.declared.Fields.{Fields}
+use Rattle.reply.specs.declared.Fields.the-variants.{ProcessFields}
 
 -- code, started, exited, debugger open, terminated
 unfoldable pub fieldsOf : Process → Fields

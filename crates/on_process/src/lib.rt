@@ -14,8 +14,8 @@ use process_move::Move;
 use process_move::answered;
 use process_move::found;
 use record_process::Process;
-use records::reply::Fields;
 use records::tables::FoundProcess;
+use reply::Fields;
 
 // -- Showing -------------------------------------------------------------------------------
 

@@ -13,7 +13,7 @@ use Rattle.record_process.specs.declared.Process.{Process}
 use Rattle.records.specs.declared.tables.Tables.{Tables}
 use Rattle.records.specs.declared.tables.FoundProcess.{FoundProcess}
 use Rattle.records.specs.declared.tables.FoundProcess.the-variants.{NoProcess, OldProcess}
-use Rattle.records.specs.Reply.{answered}
+use Rattle.reply.specs.Reply.{answered}
 use Rattle.records.specs.Tables.{processAt, putProcess, foundProcess}
 use Rattle.owners.specs.declared.FoundLevel.{FoundLevel}
 use Rattle.owners.specs.Owners.{ownersOf, processLevel, levelOfProcess, foundLevel, putLevel}

@@ -12,9 +12,9 @@ use Rattle.record_exception.specs.declared.Exception.{Exception}
 use Rattle.record_thread.specs.declared.Thread.{Thread}
 use Rattle.record_thread.specs.Thread.{endWait}
 use Rattle.records.specs.declared.tables.Tables.{Tables}
-use Rattle.records.specs.declared.reply.Fields.the-variants.{OwnerField}
-use Rattle.records.specs.declared.reply.Reply.{Reply}
-use Rattle.records.specs.Reply.{reply, answered}
+use Rattle.reply.specs.declared.Fields.the-variants.{OwnerField}
+use Rattle.reply.specs.declared.Reply.{Reply}
+use Rattle.reply.specs.Reply.{reply, answered}
 use Rattle.records.specs.Tables.{threadAt, putThread}
 use Rattle.model.specs.Exception.{raise, close}
 use Rattle.exception_over.specs.Over.{isOver}

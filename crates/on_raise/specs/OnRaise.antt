@@ -2,7 +2,7 @@
 use mathlib.Core.Bool.{true, false}
 use lib.IntN.{ℤ, pos}
 use Rattle.record_thread.specs.declared.Thread.{Thread}
-use Rattle.records.specs.declared.reply.Fields.the-variants.{OwnerField}
+use Rattle.reply.specs.declared.Fields.the-variants.{OwnerField}
 use Rattle.thread_move.specs.declared.Early.{Early}
 use Rattle.thread_move.specs.ThreadMove.{move, shows}
 

@@ -8,7 +8,7 @@ use Rattle.laws.specs.Choice.{_≤?_, _=?_, if_then_else_}
 use Rattle.laws.specs.Guarded.{ok, guard, _>>_, _>>=_, refuse_when_, settle}
 use Rattle.record_thread.specs.Thread.{FULL, suspend, resume}
 use Rattle.records.specs.declared.tables.Tables.{Tables}
-use Rattle.records.specs.declared.reply.Reply.{Reply}
+use Rattle.reply.specs.declared.Reply.{Reply}
 use Rattle.records.specs.Tables.{threadAt, putThread, foundThread}
 use Rattle.owners.specs.Owners.{tasksOf, foundTask, madeThread}
 use Rattle.model.specs.Replies.{call, accept, thread, oldThread, oldTask}

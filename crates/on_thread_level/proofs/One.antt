@@ -11,7 +11,7 @@ use Rattle.record_exception.specs.declared.Level.the-variants.{Bound, HungUp}
 use Rattle.record_exception.specs.Channel.{isBound, isShut}
 use Rattle.record_thread.specs.Thread.{withLevel2}
 use Rattle.records.specs.declared.tables.Tables.{Tables}
-use Rattle.records.specs.declared.reply.Reply.{Reply}
+use Rattle.reply.specs.declared.Reply.{Reply}
 use Rattle.records.specs.Tables.{threadAt, putThread, foundThread}
 use Rattle.owners.specs.Owners.{ownersOf, foundLevel, levelOfThread, putLevel}
 use Rattle.model.specs.Replies.{call, accept, thread, oldThread, oldLevel}

@@ -10,7 +10,7 @@ use lib.IntN.{ℤ}
 use Rattle.record_process.specs.declared.Process.{Process}
 use Rattle.record_thread.specs.declared.Thread.{Thread}
 use Rattle.records.specs.declared.tables.Tables.{Tables}
-use Rattle.records.specs.Reply.{answered}
+use Rattle.reply.specs.Reply.{answered}
 use Rattle.records.specs.Tables.{processAt, threadAt, putProcess, putThread}
 use Rattle.model.proofs.Answering.{answering}
 use Rattle.process_move.proofs.Moving.{same, kept, looked-up}

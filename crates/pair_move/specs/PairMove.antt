@@ -6,8 +6,8 @@ use lib.IntN.{ℤ}
 use Rattle.record_process.specs.declared.Process.{Process}
 use Rattle.record_thread.specs.declared.Thread.{Thread}
 use Rattle.records.specs.declared.tables.Tables.{Tables}
-use Rattle.records.specs.declared.reply.Reply.{Reply}
-use Rattle.records.specs.Reply.{answered}
+use Rattle.reply.specs.declared.Reply.{Reply}
+use Rattle.reply.specs.Reply.{answered}
 use Rattle.records.specs.Tables.{processAt, threadAt, putProcess, putThread}
 use Rattle.pair_move.specs.declared.Both.{Both}
 

@@ -4,8 +4,8 @@ ghost use mathlib.Core.Path.{_≡_};
 ghost use Rattle.pair_move.specs.PairMove.{two, bothMoved};
 use record_process::Process;
 use record_thread::Thread;
-use records::reply::Reply;
 use records::tables::Tables;
+use reply::Reply;
 
 // What a call on a process and a thread comes to.
 pub struct Both {

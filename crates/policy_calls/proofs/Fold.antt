@@ -19,8 +19,8 @@ use Rattle.laws.proofs.Cases.{by, if-on, no-both}
 use Rattle.laws.proofs.Flow.{stops, passes, yes, no}
 use Rattle.job_policy.specs.declared.BasicPolicy.{BasicPolicy}
 use Rattle.records.specs.declared.tables.Tables.{Tables}
-use Rattle.records.specs.declared.reply.Reply.{Reply}
-use Rattle.records.specs.Reply.{answered}
+use Rattle.reply.specs.declared.Reply.{Reply}
+use Rattle.reply.specs.Reply.{answered}
 use Rattle.records.specs.Tables.{ownAt, inheritedAt}
 use Rattle.model.specs.JobCalls.{setPolicyBasic}
 use Rattle.model.specs.JobPolicy.{badEntry, Setting, setting, setEach, setPolicy}

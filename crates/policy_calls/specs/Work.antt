@@ -10,7 +10,7 @@ use Rattle.job_policy.specs.declared.JobPolicy.{JobPolicy}
 use Rattle.job_policy.specs.declared.BasicPolicy.{BasicPolicy}
 use Rattle.job_policy.specs.Policy.{getAction, apply}
 use Rattle.records.specs.declared.tables.Tables.{Tables}
-use Rattle.records.specs.declared.reply.Reply.{Reply}
+use Rattle.reply.specs.declared.Reply.{Reply}
 use Rattle.records.specs.Tables.{ownAt, inheritedAt}
 use Rattle.model.specs.Replies.{call, job}
 use Rattle.model.specs.Job.{jobEmpty}

@@ -16,9 +16,9 @@ use job_policy::PolicyAction;
 use job_policy::PolicyCondition;
 use reading::inherited_at;
 use reading::own_at;
-use records::reply::Reply;
 use records::tables::FoundJob;
 use records::tables::Tables;
+use reply::Reply;
 
 // -- One pass over a list ------------------------------------------------------------------
 

@@ -11,8 +11,8 @@ use Rattle.error.specs.Numbers.{BAD-STATE, ALREADY-EXISTS}
 use Rattle.job_policy.specs.declared.BasicPolicy.{BasicPolicy}
 use Rattle.job_policy.specs.declared.JobPolicy.{JobPolicy}
 use Rattle.records.specs.declared.tables.Tables.{Tables}
-use Rattle.records.specs.declared.reply.Reply.{Reply}
-use Rattle.records.specs.Reply.{answered}
+use Rattle.reply.specs.declared.Reply.{Reply}
+use Rattle.reply.specs.Reply.{answered}
 use Rattle.records.specs.Tables.{jobAt}
 use Rattle.model.specs.Job.{jobEmpty}
 use Rattle.model.specs.JobPolicy.{setting, policySet}

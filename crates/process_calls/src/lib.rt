@@ -11,11 +11,11 @@ use job::finish_thread;
 use job_lists::policy_of;
 use reading::process_at;
 use record_process::Process;
-use records::reply::Reply;
 use records::tables::FoundJob;
 use records::tables::FoundProcess;
 use records::tables::FoundThread;
 use records::tables::Tables;
+use reply::Reply;
 
 // The policy is fixed when a process is made.
 fn with_new_process(t: Tables, job: u8, new: u8) -> Tables

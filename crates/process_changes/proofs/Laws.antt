@@ -25,8 +25,8 @@ use Rattle.record_process.specs.declared.Critical.the-variants.{Free, To}
 use Rattle.record_process.specs.Process.{newProcess, isExited, isCritical, withStatus, ended}
 use Rattle.record_thread.specs.Thread.{threadOf}
 use Rattle.records.specs.declared.tables.Tables.{Tables}
-use Rattle.records.specs.declared.reply.Reply.{Reply}
-use Rattle.records.specs.Reply.{answered}
+use Rattle.reply.specs.declared.Reply.{Reply}
+use Rattle.reply.specs.Reply.{answered}
 use Rattle.records.specs.Tables.{jobAt, processAt, putProcess, withProcesses, withThreads}
 use Rattle.model.specs.Job.{mayTerminate, listsThread, exitProcess, stopIn, stopThreads}
 use Rattle.model.specs.JobPolicy.{policyOf}

@@ -12,7 +12,7 @@ use Rattle.record_process.specs.declared.Process.{Process}
 use Rattle.record_process.specs.Process.{noProcess}
 use Rattle.records.specs.declared.tables.Tables.{Tables}
 use Rattle.records.specs.declared.tables.FoundProcess.{FoundProcess}
-use Rattle.records.specs.Reply.{reply, answered}
+use Rattle.reply.specs.Reply.{reply, answered}
 use Rattle.records.specs.Tables.{processAt, putProcess, foundProcess, withProcesses}
 use Rattle.process_move.specs.declared.Move.{Move}
 use Rattle.process_move.specs.ProcessMove.{slot, move, foundIn, moved}

@@ -11,9 +11,9 @@ use Rattle.record_process.specs.declared.Process.{Process}
 use Rattle.records.specs.declared.tables.Tables.{Tables}
 use Rattle.records.specs.declared.tables.FoundProcess.{FoundProcess}
 use Rattle.records.specs.declared.tables.FoundProcess.the-variants.{NoProcess, OldProcess}
-use Rattle.records.specs.declared.reply.Fields.the-variants.{NoFields}
-use Rattle.records.specs.declared.reply.Reply.{Reply}
-use Rattle.records.specs.Reply.{reply}
+use Rattle.reply.specs.declared.Fields.the-variants.{NoFields}
+use Rattle.reply.specs.declared.Reply.{Reply}
+use Rattle.reply.specs.Reply.{reply}
 use Rattle.records.specs.Tables.{jobAt, processAt, fixedAt, putProcess}
 use Rattle.process_move.specs.declared.Move.{Move}
 use Rattle.process_move.specs.declared.Early.{Early}

@@ -3,10 +3,10 @@
 ghost use mathlib.Core.Path.{_≡_};
 ghost use Rattle.process_move.specs.ProcessMove.{move, foundIn, moved};
 use record_process::Process;
-use records::reply::Fields;
-use records::reply::Reply;
 use records::tables::FoundProcess;
 use records::tables::Tables;
+use reply::Fields;
+use reply::Reply;
 
 // What a call comes to: its answer and fields, and the process after it.
 pub struct Move {

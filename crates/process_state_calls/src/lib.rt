@@ -10,10 +10,10 @@ use job_lists::at_or_above;
 use reading::fixed_at;
 use reading::process_at;
 use reading::thread_at;
-use records::reply::Reply;
 use records::tables::FoundJob;
 use records::tables::FoundProcess;
 use records::tables::Tables;
+use reply::Reply;
 
 // 04: `Process::start`.
 pub fn start(t: Tables, process: u8, thread: u8) -> Reply

@@ -15,8 +15,8 @@ use Rattle.record_process.specs.Process.{isCritical, bindTo}
 use Rattle.record_thread.specs.declared.Thread.{Thread}
 use Rattle.record_thread.specs.Thread.{isFree, finish, threadOf}
 use Rattle.records.specs.declared.tables.Tables.{Tables}
-use Rattle.records.specs.declared.reply.Reply.{Reply}
-use Rattle.records.specs.Reply.{reply, answered}
+use Rattle.reply.specs.declared.Reply.{Reply}
+use Rattle.reply.specs.Reply.{reply, answered}
 use Rattle.records.specs.Tables.{jobAt, processAt, threadAt, putProcess, putThread}
 use Rattle.model.specs.Job.{atOrAbove, listsThread, finishThread}
 use Rattle.model.specs.JobCalls.{setCriticalAtJob}

@@ -13,7 +13,7 @@ use Rattle.record_process.specs.declared.Process.{Process}
 use Rattle.record_thread.specs.declared.Thread.{Thread}
 use Rattle.records.specs.declared.tables.Tables.{Tables}
 use Rattle.records.specs.Tables.{putJob, putOwn, putInherited, putProcess, putFixed, putThread}
-use Rattle.records.specs.Reply.{reply}
+use Rattle.reply.specs.Reply.{reply}
 use Rattle.records.specs.Tables.{putToken, withThreads}
 use Rattle.records.specs.Tables.{jobAt, processAt, threadAt, ownAt, inheritedAt, fixedAt}
 use Rattle.records.specs.Tables.{Sized}

@@ -4,9 +4,9 @@ use job_policy::BasicPolicy;
 use job_policy::JobPolicy;
 use job_policy::TimerSlackPolicy;
 use record_thread::Thread;
-use records::reply::Fields;
-use records::reply::Reply;
 use records::tables::Tables;
+use reply::Fields;
+use reply::Reply;
 
 fn show(command: u64, answer: i64) {
     let mut out = io::buffer();

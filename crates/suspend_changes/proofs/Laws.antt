@@ -15,8 +15,8 @@ use Rattle.laws.proofs.Cases.{if-on}
 use Rattle.lists.specs.Each.{hasCount, oneOf, eachIn}
 use Rattle.record_thread.specs.Thread.{FULL}
 use Rattle.records.specs.declared.tables.Tables.{Tables}
-use Rattle.records.specs.declared.reply.Reply.{Reply}
-use Rattle.records.specs.Reply.{answered}
+use Rattle.reply.specs.declared.Reply.{Reply}
+use Rattle.reply.specs.Reply.{answered}
 use Rattle.records.specs.Tables.{jobAt, processAt, foundJob, foundProcess, withThreads}
 use Rattle.owners.specs.declared.FoundTask.{FoundTask}
 use Rattle.owners.specs.declared.FoundTask.the-variants.{NoTask, OldTask}

@@ -6,8 +6,8 @@ ghost use Rattle.model.specs.ThreadCalls.{createThread, startThread, killThread
 ghost use Rattle.model.specs.ThreadCalls.{threadInformation};
 use reading::process_at;
 use reading::thread_at;
-use records::reply::Reply;
 use records::tables::Tables;
+use reply::Reply;
 
 // 08: `Thread::create_with_ext`.
 pub fn create_with_ext(t: Tables, process: u8, new: u8) -> Reply

@@ -18,9 +18,9 @@ use Rattle.record_thread.specs.declared.Thread.{Thread}
 use Rattle.record_thread.specs.Thread.{noThread}
 use Rattle.records.specs.declared.tables.Tables.{Tables}
 use Rattle.records.specs.declared.tables.FoundThread.{FoundThread}
-use Rattle.records.specs.declared.reply.Fields.{Fields}
-use Rattle.records.specs.declared.reply.Reply.{Reply}
-use Rattle.records.specs.Reply.{reply, answered}
+use Rattle.reply.specs.declared.Fields.{Fields}
+use Rattle.reply.specs.declared.Reply.{Reply}
+use Rattle.reply.specs.Reply.{reply, answered}
 use Rattle.records.specs.Tables.{threadAt, putThread, foundThread, withThreads}
 use Rattle.model.specs.Replies.{call}
 use Rattle.model.proofs.Answering.{answering}

@@ -9,10 +9,10 @@ use Rattle.record_thread.specs.declared.Thread.{Thread}
 use Rattle.records.specs.declared.tables.Tables.{Tables}
 use Rattle.records.specs.declared.tables.FoundThread.{FoundThread}
 use Rattle.records.specs.declared.tables.FoundThread.the-variants.{NoThread, OldThread}
-use Rattle.records.specs.declared.reply.Fields.{Fields}
-use Rattle.records.specs.declared.reply.Fields.the-variants.{NoFields}
-use Rattle.records.specs.declared.reply.Reply.{Reply}
-use Rattle.records.specs.Reply.{reply}
+use Rattle.reply.specs.declared.Fields.{Fields}
+use Rattle.reply.specs.declared.Fields.the-variants.{NoFields}
+use Rattle.reply.specs.declared.Reply.{Reply}
+use Rattle.reply.specs.Reply.{reply}
 use Rattle.records.specs.Tables.{threadAt, putThread}
 use Rattle.thread_move.specs.declared.Move.{Move}
 use Rattle.thread_move.specs.declared.Early.{Early}

@@ -3,10 +3,10 @@
 ghost use mathlib.Core.Path.{_≡_};
 ghost use Rattle.thread_move.specs.ThreadMove.{move, foundIn, moved};
 use record_thread::Thread;
-use records::reply::Fields;
-use records::reply::Reply;
 use records::tables::FoundThread;
 use records::tables::Tables;
+use reply::Fields;
+use reply::Reply;
 
 // What a call comes to: its answer and fields, and the thread after it.
 pub struct Move {

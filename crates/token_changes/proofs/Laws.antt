@@ -21,8 +21,8 @@ use Rattle.records.specs.declared.tables.Tables.{Tables}
 use Rattle.records.specs.declared.tables.FoundJob.the-variants.{NoJob, OldJob}
 use Rattle.records.specs.declared.tables.FoundProcess.the-variants.{NoProcess, OldProcess}
 use Rattle.records.specs.declared.tables.FoundThread.the-variants.{NoThread, OldThread}
-use Rattle.records.specs.declared.reply.Reply.{Reply}
-use Rattle.records.specs.Reply.{answered}
+use Rattle.reply.specs.declared.Reply.{Reply}
+use Rattle.reply.specs.Reply.{answered}
 use Rattle.records.specs.Tables.{jobAt, processAt, threadAt, tokenAt}
 use Rattle.records.specs.Tables.{foundJob, foundProcess, foundThread}
 use Rattle.owners.specs.declared.FoundTask.{FoundTask}

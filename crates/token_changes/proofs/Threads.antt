@@ -13,7 +13,7 @@ use Rattle.record_thread.specs.declared.Thread.{Thread}
 use Rattle.record_thread.specs.Thread.{suspend, resume}
 use Rattle.record_token.specs.declared.SuspendToken.{SuspendToken}
 use Rattle.records.specs.declared.tables.Tables.{Tables}
-use Rattle.records.specs.Reply.{answered}
+use Rattle.reply.specs.Reply.{answered}
 use Rattle.records.specs.Tables.{putToken}
 use Rattle.model.specs.SuspendToken.{someAt, changeTask, changeIn}
 use Rattle.change.specs.declared.Change.{Change}

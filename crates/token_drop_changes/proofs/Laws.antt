@@ -15,8 +15,8 @@ use Rattle.record_token.specs.declared.SuspendToken.{SuspendToken}
 use Rattle.record_token.specs.SuspendToken.{drop}
 use Rattle.records.specs.declared.tables.Tables.{Tables}
 use Rattle.records.specs.declared.tables.FoundToken.the-variants.{NoToken, OldToken}
-use Rattle.records.specs.declared.reply.Reply.{Reply}
-use Rattle.records.specs.Reply.{answered}
+use Rattle.reply.specs.declared.Reply.{Reply}
+use Rattle.reply.specs.Reply.{answered}
 use Rattle.records.specs.Tables.{tokenAt, putToken, foundToken}
 use Rattle.model.specs.Replies.{call, accept}
 use Rattle.model.specs.SuspendToken.{someAt, resumeTask, dropToken}

@@ -3,8 +3,8 @@
 ghost use mathlib.Core.Path.{_≡_};
 ghost use Rattle.model.specs.ThreadCalls.{beginWait, pollWait};
 use reading::thread_at;
-use records::reply::Reply;
 use records::tables::Tables;
+use reply::Reply;
 
 // 19: begins a plain wait.
 pub fn begin_wait(t: Tables, thread: u8, state: u16) -> Reply

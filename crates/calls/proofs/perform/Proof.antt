@@ -7,7 +7,7 @@ use mir.Val.{SFits}
 use mir.Facts.{toZ-ofZ}
 use Rattle.laws.specs.Choice.{if_then_else_}
 use Rattle.records.specs.declared.tables.Tables.{Tables}
-use Rattle.records.specs.declared.reply.Reply.{Reply}
+use Rattle.reply.specs.declared.Reply.{Reply}
 use Rattle.commands.specs.Commands.{byte}
 use Rattle.model.specs.Step.{step, cmd1f}
 use Rattle.calls.specs.Calls.{callBy, callIn}

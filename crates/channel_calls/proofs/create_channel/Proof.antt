@@ -3,8 +3,8 @@ use lib.IntN.{pos}
 use Rattle.laws.specs.Choice.{minus}
 use Rattle.record_exception.specs.declared.Level.the-variants.{Bound}
 use Rattle.owners.specs.Owners.{putLevel}
-use Rattle.records.specs.declared.reply.Reply.{Reply}
-use Rattle.records.specs.Reply.{answered}
+use Rattle.reply.specs.declared.Reply.{Reply}
+use Rattle.reply.specs.Reply.{answered}
 use Rattle.model.specs.ExceptionCalls.{bindLevel}
 use Rattle.model.proofs.Answering.{answering}
 use borrow.Author.Needs.{needs}

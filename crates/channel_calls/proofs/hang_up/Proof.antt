@@ -2,8 +2,8 @@ use mathlib.Core.Path.{_≡_}
 use lib.IntN.{pos}
 use Rattle.record_exception.specs.declared.Level.the-variants.{HungUp}
 use Rattle.owners.specs.Owners.{putLevel}
-use Rattle.records.specs.declared.reply.Reply.{Reply}
-use Rattle.records.specs.Reply.{answered}
+use Rattle.reply.specs.declared.Reply.{Reply}
+use Rattle.reply.specs.Reply.{answered}
 use Rattle.model.specs.ExceptionCalls.{hangUpLevel}
 use Rattle.model.proofs.Answering.{answering}
 use borrow.Author.Needs.{needs}

@@ -23,8 +23,8 @@ use Rattle.record_thread.specs.declared.Waiting.the-variants.{InException}
 use Rattle.record_thread.specs.declared.Thread.{Thread}
 use Rattle.record_thread.specs.Thread.{heldIn}
 use Rattle.records.specs.declared.tables.Tables.{Tables}
-use Rattle.records.specs.declared.reply.Reply.{Reply}
-use Rattle.records.specs.Reply.{answered}
+use Rattle.reply.specs.declared.Reply.{Reply}
+use Rattle.reply.specs.Reply.{answered}
 use Rattle.records.specs.Tables.{jobAt, threadAt, foundThread}
 use Rattle.model.specs.declared.Handler.{Handler}
 use Rattle.model.specs.declared.Handler.the-variants.{Nobody, HandlerAt}

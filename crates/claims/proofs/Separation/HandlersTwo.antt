@@ -18,8 +18,8 @@ use Rattle.record_thread.specs.declared.Waiting.the-variants.{InException}
 use Rattle.record_thread.specs.declared.Thread.{Thread}
 use Rattle.record_thread.specs.Thread.{DYING, BLOCKED-EXCEPTION, waits, endWait}
 use Rattle.records.specs.declared.tables.Tables.{Tables}
-use Rattle.records.specs.declared.reply.Fields.the-variants.{OwnerField}
-use Rattle.records.specs.Reply.{reply}
+use Rattle.reply.specs.declared.Fields.the-variants.{OwnerField}
+use Rattle.reply.specs.Reply.{reply}
 use Rattle.records.specs.Tables.{jobAt, threadAt}
 use Rattle.model.specs.declared.Route.{Route}
 use Rattle.model.specs.declared.Route.the-variants.{Ordinary, JobDebuggers, DebuggerOnly}

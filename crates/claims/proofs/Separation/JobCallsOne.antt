@@ -11,7 +11,7 @@ use Rattle.job_policy.specs.declared.BasicPolicy.{BasicPolicy}
 use Rattle.job_policy.specs.declared.TimerSlackPolicy.{TimerSlackPolicy}
 use Rattle.record_process.specs.Process.{KILL-CODE}
 use Rattle.records.specs.declared.tables.Tables.{Tables}
-use Rattle.records.specs.Reply.{reply}
+use Rattle.reply.specs.Reply.{reply}
 use Rattle.model.specs.JobCalls.{withChild, createChild, killJobCall, setPolicyBasic}
 use Rattle.model.specs.JobCalls.{setPolicyTimerSlack, jobInfo, jobInformation}
 use Rattle.model.specs.JobCalls.{withNewProcess, createProcess, withStarted, startProcess}

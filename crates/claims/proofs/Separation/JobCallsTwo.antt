@@ -17,8 +17,8 @@ use Rattle.record_process.specs.declared.Process.{Process}
 use Rattle.record_process.specs.Process.{KILL-CODE}
 use Rattle.record_thread.specs.declared.Thread.{Thread}
 use Rattle.records.specs.declared.tables.Tables.{Tables}
-use Rattle.records.specs.declared.reply.Fields.the-variants.{JobFields}
-use Rattle.records.specs.Reply.{reply, replyWith}
+use Rattle.reply.specs.declared.Fields.the-variants.{JobFields}
+use Rattle.reply.specs.Reply.{reply, replyWith}
 use Rattle.records.specs.Tables.{ownAt, inheritedAt}
 use Rattle.model.specs.Replies.{job, process}
 use Rattle.model.specs.JobCalls.{withChild, createChild, killJobCall, setPolicyBasic}

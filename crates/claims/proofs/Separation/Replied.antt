@@ -5,8 +5,8 @@ use lib.IntN.{ℤ, pos}
 use Rattle.laws.specs.Guarded.{Guarded}
 use Rattle.laws.proofs.Cases.{Both, ok-two, settle-two}
 use Rattle.records.specs.declared.tables.Tables.{Tables}
-use Rattle.records.specs.declared.reply.Reply.{Reply}
-use Rattle.records.specs.Reply.{answered}
+use Rattle.reply.specs.declared.Reply.{Reply}
+use Rattle.reply.specs.Reply.{answered}
 use Rattle.model.specs.Replies.{call, accept}
 use Rattle.model.specs.Step.{shown}
 use Rattle.claims.specs.Separation.{Trip}

@@ -18,9 +18,9 @@ use Rattle.record_thread.specs.Thread.{exit, suspend, resume, endWait}
 use Rattle.record_token.specs.declared.SuspendToken.{SuspendToken}
 use Rattle.record_token.specs.SuspendToken.{noToken}
 use Rattle.records.specs.declared.tables.Tables.{Tables}
-use Rattle.records.specs.declared.reply.Fields.{Fields}
-use Rattle.records.specs.declared.reply.Fields.the-variants.{NoFields, OwnerField, JobFields}
-use Rattle.records.specs.declared.reply.Fields.the-variants.{ProcessFields, ThreadFields}
+use Rattle.reply.specs.declared.Fields.{Fields}
+use Rattle.reply.specs.declared.Fields.the-variants.{NoFields, OwnerField, JobFields}
+use Rattle.reply.specs.declared.Fields.the-variants.{ProcessFields, ThreadFields}
 use Rattle.job_policy.specs.Policy.{getAction, apply, mergedAction, merge}
 use Rattle.job_policy.specs.Slack.{larger, generateNew}
 use Rattle.laws.specs.Choice.{_and_, _or_, if_then_else_, ite, _=?_}
@@ -61,7 +61,7 @@ use Rattle.model.specs.ThreadCalls.{suspendCall, resumeCall}
 use Rattle.owners.specs.Owners.{ownersOf, processLevel, jobLevel, levelOfThread, levelOfProcess}
 use Rattle.owners.specs.Owners.{levelOfJob, foundLevel, putLevel, tasksOf, madeJob, madeProcess}
 use Rattle.owners.specs.Owners.{madeThread, foundTask}
-use Rattle.records.specs.Reply.{reply, answered}
+use Rattle.reply.specs.Reply.{reply, answered}
 use Rattle.records.specs.Tables.{freshTables, jobAt, ownAt, inheritedAt, processAt, fixedAt}
 use Rattle.records.specs.Tables.{threadAt, tokenAt, foundJob, foundProcess, foundThread}
 use Rattle.records.specs.Tables.{foundToken, putJob, putOwn, putInherited, putProcess, putFixed}

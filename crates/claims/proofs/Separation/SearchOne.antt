@@ -13,8 +13,8 @@ use Rattle.record_exception.specs.Channel.{tried}
 use Rattle.record_job.specs.Job.{withLevel4, withLevel5}
 use Rattle.record_process.specs.Process.{KILL-CODE}
 use Rattle.records.specs.declared.tables.Tables.{Tables}
-use Rattle.records.specs.declared.reply.Reply.{Reply}
-use Rattle.records.specs.Reply.{reply}
+use Rattle.reply.specs.declared.Reply.{Reply}
+use Rattle.reply.specs.Reply.{reply}
 use Rattle.records.specs.Tables.{jobAt, putJob}
 use Rattle.model.specs.declared.Handler.{Handler}
 use Rattle.model.specs.declared.Handler.the-variants.{Nobody, HandlerAt}

@@ -8,7 +8,7 @@ use Rattle.record_thread.specs.declared.Thread.{Thread}
 use Rattle.record_thread.specs.Thread.{suspend, resume}
 use Rattle.record_token.specs.declared.SuspendToken.{SuspendToken}
 use Rattle.records.specs.declared.tables.Tables.{Tables}
-use Rattle.records.specs.Reply.{reply}
+use Rattle.reply.specs.Reply.{reply}
 use Rattle.records.specs.Tables.{tokenAt, putThread}
 use Rattle.model.specs.Replies.{accept}
 use Rattle.model.specs.ThreadCalls.{createThread, startThread, killThread, exitThread}

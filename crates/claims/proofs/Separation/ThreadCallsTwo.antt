@@ -9,7 +9,7 @@ use Rattle.record_thread.specs.Thread.{DYING, suspend, resume}
 use Rattle.record_token.specs.declared.SuspendToken.{SuspendToken}
 use Rattle.record_token.specs.SuspendToken.{drop}
 use Rattle.records.specs.declared.tables.Tables.{Tables}
-use Rattle.records.specs.Reply.{reply}
+use Rattle.reply.specs.Reply.{reply}
 use Rattle.records.specs.Tables.{tokenAt, putToken}
 use Rattle.model.specs.Replies.{oldTask}
 use Rattle.model.specs.ThreadCalls.{startThread, killThread, exitThread, threadInfo}

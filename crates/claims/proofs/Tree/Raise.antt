@@ -18,8 +18,8 @@ use Rattle.record_thread.specs.declared.Thread.{Thread}
 use Rattle.record_thread.specs.Thread.{DEAD, BLOCKED-EXCEPTION, isWaiting, isLive, isFree, waits}
 use Rattle.record_thread.specs.Thread.{endWait}
 use Rattle.records.specs.declared.tables.Tables.{Tables}
-use Rattle.records.specs.declared.reply.Fields.{Fields}
-use Rattle.records.specs.Reply.{reply}
+use Rattle.reply.specs.declared.Fields.{Fields}
+use Rattle.reply.specs.Reply.{reply}
 use Rattle.records.specs.Tables.{threadAt, putThread}
 use Rattle.model.specs.declared.Handler.{Handler}
 use Rattle.model.specs.declared.Handler.the-variants.{Nobody, HandlerAt}

@@ -2,8 +2,8 @@ use mathlib.Core.Path.{_∙_, ap}
 use lib.IntN.{ℤ}
 use mir.Syntax.{w64}
 use mir.Facts.{toZ-ofZ}
-use Rattle.records.specs.declared.reply.Fields.the-variants.{OwnerField}
-use Rattle.records.specs.Reply.{reply}
+use Rattle.reply.specs.declared.Fields.the-variants.{OwnerField}
+use Rattle.reply.specs.Reply.{reply}
 use borrow.Author.Needs.{needs}
 use Rattle.handling.proofs.outcome.Statement.{statement}
 use Rattle.handling.proofs.outcome.Tie as tie

@@ -1,7 +1,7 @@
 use mathlib.Core.Path.{ap₂}
 use mir.Syntax.{w64}
 use mir.Facts.{toZ-ofZ}
-use Rattle.records.specs.declared.reply.Fields.the-variants.{NoFields}
+use Rattle.reply.specs.declared.Fields.the-variants.{NoFields}
 use borrow.Author.Needs.{needs}
 use Rattle.job_move.proofs.answered.Statement.{statement}
 use Rattle.job_move.proofs.answered.Tie as tie

@@ -2,7 +2,7 @@ use mathlib.Core.Path.{ap₂}
 use mir.Syntax.{w64}
 use mir.Val.{SFits}
 use mir.Facts.{toZ-ofZ}
-use Rattle.records.specs.Reply.{replyWith}
+use Rattle.reply.specs.Reply.{replyWith}
 use Rattle.job_move.specs.JobMove.{moved}
 use borrow.Author.Needs.{needs}
 use Rattle.job_move.proofs.moved.Statement.{statement}

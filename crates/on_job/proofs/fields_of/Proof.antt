@@ -2,7 +2,7 @@ use mathlib.Core.Path.{ap}
 use mir.Syntax.{w64}
 use mir.Val.{SFits}
 use mir.Facts.{toZ-ofZ}
-use Rattle.records.specs.declared.reply.Fields.the-variants.{JobFields}
+use Rattle.reply.specs.declared.Fields.the-variants.{JobFields}
 use Rattle.on_job.specs.OnJob.{fieldsOf}
 use borrow.Author.Needs.{needs}
 use Rattle.on_job.proofs.fields_of.Statement.{statement}

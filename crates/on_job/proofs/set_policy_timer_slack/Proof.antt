@@ -7,9 +7,9 @@ use mir.Facts.{toZ-ofZ}
 use Rattle.job_policy.specs.Slack.{generateNew}
 use Rattle.record_job.specs.declared.Job.{Job}
 use Rattle.record_job.specs.Job.{withSlack}
-use Rattle.records.specs.declared.reply.Reply.{Reply}
+use Rattle.reply.specs.declared.Reply.{Reply}
 use Rattle.records.specs.declared.tables.Tables.{Tables}
-use Rattle.records.specs.Reply.{answered}
+use Rattle.reply.specs.Reply.{answered}
 use Rattle.records.specs.Tables.{jobAt, putJob}
 use Rattle.model.specs.Job.{jobEmpty}
 use Rattle.model.specs.JobCalls.{setPolicyTimerSlack}

@@ -7,7 +7,7 @@ use mir.Facts.{toZ-ofZ}
 use Rattle.record_exception.specs.Channel.{isBound}
 use Rattle.record_process.specs.declared.Process.{Process}
 use Rattle.record_process.specs.Process.{isInit, isExited, codeOf}
-use Rattle.records.specs.declared.reply.Fields.the-variants.{ProcessFields}
+use Rattle.reply.specs.declared.Fields.the-variants.{ProcessFields}
 use Rattle.on_process.specs.OnProcess.{fieldsOf}
 use borrow.Author.Needs.{needs}
 use Rattle.on_process.proofs.fields_of.Statement.{statement}

@@ -2,9 +2,9 @@ use Prim.Native.Nat.{_%_}
 use mathlib.Core.Path.{_≡_}
 use lib.IntN.{pos}
 use Rattle.laws.specs.Choice.{minus}
-use Rattle.records.specs.declared.reply.Reply.{Reply}
+use Rattle.reply.specs.declared.Reply.{Reply}
 use Rattle.records.specs.declared.tables.Tables.{Tables}
-use Rattle.records.specs.Reply.{answered}
+use Rattle.reply.specs.Reply.{answered}
 use Rattle.records.specs.Tables.{processAt, threadAt}
 use Rattle.model.specs.JobCalls.{withStarted, startProcess}
 use Rattle.pair_move.proofs.Moving.{pairs, both-stay}

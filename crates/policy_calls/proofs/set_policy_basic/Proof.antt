@@ -55,7 +55,7 @@ use denote.Triple.Clauses.{ensured, lasts}
 use denote.Exit.{yes}
 use Rattle.job_policy.specs.declared.BasicPolicy.{BasicPolicy}
 use Rattle.records.specs.declared.tables.Tables.{Tables}
-use Rattle.records.specs.declared.reply.Reply.{Reply}
+use Rattle.reply.specs.declared.Reply.{Reply}
 use Rattle.model.specs.JobCalls.{setPolicyBasic}
 use Rattle.policy_calls.specs.declared.Work.{Work}
 use Rattle.policy_calls.specs.Work.{beginWork, stepWork, afterEach, finishWork}
@@ -65,8 +65,8 @@ use Rattle.records.proofs.tables.Tables as T
 use Rattle.records.proofs.tables.Tables.Laws as T′
 use Rattle.job_policy.proofs.BasicPolicy as B
 use Rattle.job_policy.proofs.BasicPolicy.Laws as B′
-use Rattle.records.proofs.reply.Reply as R
-use Rattle.records.proofs.reply.Reply.Laws as R′
+use Rattle.reply.proofs.Reply as R
+use Rattle.reply.proofs.Reply.Laws as R′
 use Rattle.policy_calls.proofs.Work as K
 use Rattle.policy_calls.proofs.Work.Laws as K′
 use Rattle.policy_calls.proofs.begin as begin

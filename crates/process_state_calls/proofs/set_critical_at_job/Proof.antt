@@ -1,7 +1,7 @@
 use mathlib.Core.Path.{_≡_}
 use lib.IntN.{pos}
-use Rattle.records.specs.declared.reply.Reply.{Reply}
-use Rattle.records.specs.Reply.{answered}
+use Rattle.reply.specs.declared.Reply.{Reply}
+use Rattle.reply.specs.Reply.{answered}
 use Rattle.laws.specs.Choice.{_=?_, minus}
 use Rattle.record_process.specs.Process.{bindTo}
 use Rattle.records.specs.Tables.{putProcess}

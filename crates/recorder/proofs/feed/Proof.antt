@@ -18,7 +18,7 @@ use Rattle.laws.proofs.Loops.{length-mapped}
 use Rattle.records.specs.Tables.{Sized}
 use Rattle.slots.specs.declared.Slots.{Slots}
 use Rattle.deciding.specs.Deciding.{storedAt}
-use Rattle.records.specs.Reply.{reply}
+use Rattle.reply.specs.Reply.{reply}
 use Rattle.records.specs.Tables.{putJob, putOwn, putInherited, putProcess, putFixed, putThread}
 use Rattle.records.specs.Tables.{putToken, withThreads}
 use Rattle.records.specs.declared.tables.Tables.{Tables}

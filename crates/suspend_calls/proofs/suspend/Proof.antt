@@ -1,8 +1,8 @@
 use mathlib.Core.Path.{_≡_}
 use lib.IntN.{pos}
 use Rattle.model.specs.SuspendToken.{suspendTask}
-use Rattle.records.specs.declared.reply.Reply.{Reply}
-use Rattle.records.specs.Reply.{answered}
+use Rattle.reply.specs.declared.Reply.{Reply}
+use Rattle.reply.specs.Reply.{answered}
 use Rattle.model.specs.ThreadCalls.{suspendCall}
 use Rattle.model.proofs.Answering.{answering}
 use borrow.Author.Needs.{needs}

@@ -2,10 +2,10 @@
 use lib.IntN.{ℤ}
 use Rattle.job_policy.specs.Policy.{noPolicy}
 use Rattle.job_policy.specs.declared.JobPolicy.{JobPolicy}
 use Rattle.records.specs.declared.tables.Tables.{Tables}
-use Rattle.records.specs.declared.reply.Fields.{Fields}
-use Rattle.records.specs.declared.reply.Fields.the-variants.{NoFields}
-use Rattle.records.specs.declared.reply.Reply.{Reply}
+use Rattle.reply.specs.declared.Fields.{Fields}
+use Rattle.reply.specs.declared.Fields.the-variants.{NoFields}
+use Rattle.reply.specs.declared.Reply.{Reply}
 
 abbrev pub replyWith : Tables → Fields → ℤ → JobPolicy → Reply
 replyWith t fields answer policy =

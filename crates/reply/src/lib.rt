@@ -1,8 +1,8 @@
-// reply.rt: what a call answers: a number, the fields that follow it, and the tables.
+// reply: what a call answers: a number, the fields that follow it, and the tables.
 ghost use mathlib.Core.Path.{_≡_};
-ghost use Rattle.records.specs.Reply.{reply, answered};
-use crate::tables::Tables;
+ghost use Rattle.reply.specs.Reply.{reply, answered};
 use job_policy::JobPolicy;
+use records::tables::Tables;
 
 // The fields after the answer. The policy of a job's information stands beside, in the reply.
 pub enum Fields {

@@ -1,10 +1,10 @@
 use mathlib.Core.Path.{ap₂}
 use mir.Syntax.{w64}
 use mir.Facts.{toZ-ofZ}
-use Rattle.records.specs.Reply.{replyWith, reply}
+use Rattle.reply.specs.Reply.{replyWith, reply}
 use borrow.Author.Needs.{needs}
-use Rattle.records.proofs.reply.Reply.with_fields.Statement.{statement}
-use Rattle.records.proofs.reply.Reply.with_fields.Tie as tie
+use Rattle.reply.proofs.Reply.with_fields.Statement.{statement}
+use Rattle.reply.proofs.Reply.with_fields.Tie as tie
 
 pub with-fields-spec : {M : Type 1} → statement M
 unfolding reply

@@ -1,11 +1,11 @@
 use mathlib.Core.Path.{ap₂}
 use mir.Syntax.{w64}
 use mir.Facts.{toZ-ofZ}
-use Rattle.records.specs.declared.reply.Fields.the-variants.{NoFields}
-use Rattle.records.specs.Reply.{replyWith, answered}
+use Rattle.reply.specs.declared.Fields.the-variants.{NoFields}
+use Rattle.reply.specs.Reply.{replyWith, answered}
 use borrow.Author.Needs.{needs}
-use Rattle.records.proofs.reply.Reply.answered.Statement.{statement}
-use Rattle.records.proofs.reply.Reply.answered.Tie as tie
+use Rattle.reply.proofs.Reply.answered.Statement.{statement}
+use Rattle.reply.proofs.Reply.answered.Tie as tie
 
 pub answered-spec : {M : Type 1} → statement M
 unfolding answered
