@@ -1,5 +1,5 @@
-// exception_calls: raise and close; channels are in channel_calls, what a handler sets in handler_calls. Each answers document 01's refusals in
-// its order, and else what its definition in model/specs/ExceptionCalls.antt comes to.
+// exception_calls: raise and close; channels are in channel_calls, what a handler sets in handler_calls. Each answers
+// document 01's refusals in its order, and else what its definition in model/specs/ExceptionCalls.antt comes to.
 ghost use mathlib.Core.Path.{_≡_};
 ghost use Rattle.model.specs.ExceptionCalls.{raiseException, closeException};
 use error::Refusal;

@@ -1,5 +1,5 @@
-// feeding: how far a part of a stream came. specs/Recorder.antt says what is written for a part, and proofs/Feeding.antt
-// what a loop over its commands does.
+// feeding: how far a part of a stream came. specs/Recorder.antt says what is written for a part, and
+// proofs/Feeding.antt what a loop over its commands does.
 ghost use mathlib.Core.Path.{_≡_};
 ghost use Rattle.feeding.specs.Recorder.{fedAt};
 use records::tables::Tables;

@@ -1,5 +1,5 @@
 // lines: a reply as a line of text in a lent buffer. No line is longer than 128 bytes.
-// Helpers of the recorder, not entry points: `feed` checks the room, so they may require it.
+// Helpers of the recorder, not entry points: `feed` and `close` check the room, so they may require it.
 ghost use Prim.Native.Nat.{_+_, _≤_};
 ghost use lib.ListN.{length};
 ghost use Rattle.lines.specs.Line.{field, flagText, decimalText, signedText, policyText};

@@ -38,7 +38,8 @@ pub fn next_number(n: u64) -> u64
 
 // At the end of the input: a command that was cut stops. A buffer with no room for a line gets nothing.
 pub fn close(state: State, left: &[u8], out: &mut [u8]) -> usize
-    ensures { λ r. ⌜ Put (now (out .entry)) (now (out .exit)) 0 r (closedWithin (length (now (out .entry))) state (now (left .entry))) ⌝ }
+    ensures { λ r. ⌜ Put (now (out .entry)) (now (out .exit)) 0 r
+        (closedWithin (length (now (out .entry))) state (now (left .entry))) ⌝ }
     ensures { λ r. ⌜ Counts r (now (out .exit)) ⌝ }
 {
     if out.len() < LINE {

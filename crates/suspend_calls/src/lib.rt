@@ -1,5 +1,5 @@
-// suspend_calls: suspend and resume of a task; its tokens are in token_calls. Follows suspend_token.rs; the definitions are in
-// model/specs/ThreadCalls.antt. A job can't be suspended: the Rust panics.
+// suspend_calls: suspend and resume of a task; its tokens are in token_calls. Follows suspend_token.rs; the definitions
+// are in model/specs/ThreadCalls.antt. A job can't be suspended: the Rust panics.
 ghost use mathlib.Core.Path.{_≡_};
 ghost use Rattle.model.specs.ThreadCalls.{suspendCall, resumeCall};
 use error::Refusal;
