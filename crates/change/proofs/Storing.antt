@@ -11,7 +11,7 @@ use mathlib.Core.Path.{_≡_, refl, ap, _∙_}
 use mathlib.Core.List.{map}
 use lib.IntN.{ℤ}
 use Rattle.laws.specs.Choice.{_=?_, if_then_else_}
-use Rattle.lists.specs.Each.{eachIn}
+use Rattle.thread_lists.specs.Each.{eachIn}
 use lib.ListN.{getD, set}
 use lib.Seq.{set-getD}
 use mathlib.Core.Bool.{true, false}

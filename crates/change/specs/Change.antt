@@ -6,7 +6,7 @@ use mathlib.Core.Bool.{Bool, true, false}
 use mathlib.Core.List.{map}
 use lib.IntN.{ℤ, pos}
 use Rattle.laws.specs.Choice.{_=?_, if_then_else_}
-use Rattle.lists.specs.Each.{eachIn}
+use Rattle.thread_lists.specs.Each.{eachIn}
 use Rattle.job_policy.specs.declared.JobPolicy.{JobPolicy}
 use Rattle.record_job.specs.declared.Job.{Job}
 use Rattle.record_process.specs.declared.Process.{Process}

@@ -20,7 +20,7 @@ pub struct Change {
     pub p: u8,
     pub n: u8,
     pub k: u8,
-    // What is done to each thread that process p lists, by `lists::Each`; 0: nothing.
+    // What is done to each thread that process p lists, by `thread_lists::Each`; 0: nothing.
     pub each: u8,
     pub job: Job,
     pub own: JobPolicy,

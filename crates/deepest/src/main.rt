@@ -1,4 +1,5 @@
 // deepest: the deepest cascade, for its stack. Writes how many jobs it killed.
+use fresh_tables::fresh_tables;
 use reading::job_at;
 use record_exception::Exception;
 use record_exception::ExceptionType;
@@ -34,7 +35,7 @@ fn waiting(process: u8) -> Thread {
 // 32 jobs in a chain. Process k of job k is critical to the job above, process 32 + k lists thread k, which waits.
 // Process 0, with thread 0, is critical to the lowest job, its own, and process 32 to the root, its own.
 fn chain() -> Tables {
-    let mut t = Tables::fresh();
+    let mut t = fresh_tables();
     let mut above: u8 = 0;
     for k in 1..32u8 {
         t = t.with_job(k, Job::new(above));

@@ -29,7 +29,7 @@ fn job_place(debugger: bool, job: u8) -> Place
 }
 
 // Level 4, or level 5, from a job up to the root.
-pub fn search_up(mut t: Tables, thread: u8, job: u8, debugger: bool) -> Search
+fn search_up(mut t: Tables, thread: u8, job: u8, debugger: bool) -> Search
     ensures { λ r. ⌜ r ≡ searchUp 32 (jobPlace debugger) t thread job ⌝ }
 {
     let mut at = job;

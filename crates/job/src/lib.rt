@@ -2,7 +2,7 @@
 // Each of the three has one local of the tables and indexes none: the deepest cascade stays small on the stack.
 ghost use mathlib.Core.Path.{_≡_};
 ghost use Rattle.model.specs.Job.{isLiveJob, isLiveProcess, killJob, exitProcess, endProcess};
-ghost use Rattle.model.specs.Job.{finishThread};
+ghost use Rattle.model.specs.Job.{listsThread, stopThreads, finishThread};
 use reading::job_at;
 use reading::process_at;
 use reading::thread_at;
@@ -11,6 +11,7 @@ use record_process::Critical;
 use record_process::Process;
 use record_process::Status;
 use records::tables::Tables;
+use thread_lists::Each;
 
 // -- Tests ---------------------------------------------------------------------------------
 
@@ -35,7 +36,25 @@ fn is_live_process(v: Process) -> bool
     false
 }
 
+// Whether process p lists a thread.
+fn lists_thread(t: Tables, p: u8) -> bool
+    ensures { λ r. ⌜ r ≡ listsThread t p ⌝ }
+{
+    let threads = t.threads;
+    thread_lists::lists_thread(threads, p)
+}
+
 // -- The cascade ---------------------------------------------------------------------------
+
+// Every thread that process p lists is killed.
+fn stop_threads(mut t: Tables, p: u8) -> Tables
+    ensures { λ r. ⌜ r ≡ stopThreads t p ⌝ }
+{
+    let threads = t.threads;
+    let stopped = thread_lists::each_thread(threads, p, Each::KILL);
+    t.threads = stopped;
+    t
+}
 
 // `Job::kill`: its children, then its processes, as long as they are listed. A killed job is left alone.
 pub fn kill_job(mut t: Tables, j: u8) -> Tables
@@ -73,8 +92,8 @@ pub fn exit_process(mut t: Tables, p: u8, code: i64) -> Tables
         return t;
     }
     t = t.with_process(p, process.with_status(Status::Exited(code)));
-    if scans::lists_thread(t, p) {
-        return scans::stop_threads(t, p);
+    if lists_thread(t, p) {
+        return stop_threads(t, p);
     }
     end_process(t, p)
 }
@@ -109,7 +128,7 @@ pub fn finish_thread(mut t: Tables, n: u8) -> Tables
     let thread = thread_at(t, n);
     t = t.with_thread(n, thread.finish());
     let process = thread.process;
-    if scans::lists_thread(t, process) {
+    if lists_thread(t, process) {
         return t;
     }
     end_process(t, process)

@@ -3,16 +3,11 @@ use Prim.Native.Nat.{ℕ}
 use lib.IntN.{ℤ, pos}
 use lib.Signed.{ltZ}
 use Rattle.laws.specs.Choice.{if_then_else_}
-use Rattle.error.specs.Numbers.{INVALID-ARGS}
 use Rattle.job_policy.specs.declared.TimerSlack.{TimerSlack}
 use Rattle.job_policy.specs.declared.TimerSlackPolicy.{TimerSlackPolicy}
 
 abbrev pub freshSlack : TimerSlack
 freshSlack = record { amount = pos 0; mode = 0 }
-
--- 0, or the number that refuses
-unfoldable pub checkTimerPolicy : TimerSlackPolicy → ℤ
-checkTimerPolicy p = if ltZ (p .slack) (pos 0) then INVALID-ARGS else pos 0
 
 unfoldable pub larger : ℤ → ℤ → ℤ
 larger a b = if ltZ a b then b else a

@@ -4,8 +4,7 @@ ghost use mathlib.Core.Bool.{true};
 ghost use mathlib.Core.Path.{_≡_};
 ghost use Rattle.job_policy.specs.Policy.{noPolicy, getAction, apply, mergedAction, merge};
 ghost use Rattle.job_policy.specs.Policy.{Cases};
-ghost use Rattle.job_policy.specs.Slack.{freshSlack, checkTimerPolicy, larger, generateNew};
-use error::ZxError;
+ghost use Rattle.job_policy.specs.Slack.{freshSlack, larger, generateNew};
 
 // -- Conditions and actions ----------------------------------------------------------------
 
@@ -169,16 +168,6 @@ impl Slack {
 pub struct TimerSlackPolicy {
     pub slack: i64,
     pub mode: u8,
-}
-
-// 0, or the number that refuses the policy: an amount below 0.
-pub fn check_timer_policy(policy: TimerSlackPolicy) -> i64
-    ensures { λ r. ⌜ r ≡ checkTimerPolicy policy ⌝ }
-{
-    if policy.slack < 0 {
-        return ZxError::INVALID_ARGS;
-    }
-    0
 }
 
 fn larger(a: i64, b: i64) -> i64

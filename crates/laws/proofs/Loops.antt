@@ -1,8 +1,8 @@
 -- Loops over a table, once for any test and any change of an element. Invariants speak of the first i elements.
---     any-here, any-next, any-none       a test of every element
---     mapTo, mapTo-next, mapTo-all       a change of every element, the first i so far
---     zipTo, zipTo-next, zipTo-all       a change of every element by the one beside it
---     length-mapped                      `search length-mapped` finds the length of an array of structs
+--     Searched, any-here, any-next, any-none    a test of every element
+--     mapTo, mapTo-next, mapTo-all              a change of every element, the first i so far
+--     zipTo, zipTo-next, zipTo-all              a change of every element by the one beside it
+--     length-mapped                             `search length-mapped` finds the length of an array of structs
 -- Assumes nothing.
 use Prim.Native.Nat.{ℕ, zero, suc, _+_, _<_, _≤_}
 use native.Mathlib.Numerals.{add-one}
@@ -18,8 +18,12 @@ use Rattle.laws.specs.Lists.{any, zip}
 pub length-mapped : (X Y : Type 0) (f : X → Y) (l : List X) (n : ℕ) → length (map f l) ≡ n → length l ≡ n
 length-mapped X Y f l n e = sym (length-map l f) ∙ e
 
--- the loop's invariant: the list is n long, and its answer is that of the elements from i on. b is what the code was told of element i
-module _ {A : Type 0} (f : A → Bool) (l : List A) (i n : ℕ) (inv : (length l ≡ n) × (any f l ≡ any f (drop i l))) where
+-- the invariant of a search: the list is n long, and its answer is that of the elements from i on
+abbrev pub Searched : {A : Type 0} → (A → Bool) → List A → ℕ → ℕ → Type 0
+Searched f l n i = (length l ≡ n) × (any f l ≡ any f (drop i l))
+
+-- b is what the code was told of element i
+module _ {A : Type 0} (f : A → Bool) (l : List A) (i n : ℕ) (inv : Searched f l n i) where
   pub any-here : {b : Bool} (d : A) → i < n → b ≡ f (getD l i d) → b ≡ true → true ≡ any f l
   unfolding any _or_
   any-here d h e q =

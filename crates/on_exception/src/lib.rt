@@ -30,8 +30,9 @@ pub fn set_state(thread: u8, v: Thread, state: u32) -> Move
     if 1 < state {
         return answered(v, ZxError::INVALID_ARGS);
     }
-    let after = w.waits(w.state, Waiting::InException(e.with_handled(state == 1)));
-    answered(after, 0)
+    let mut after = e;
+    after.handled = state == 1;
+    answered(w.waits(w.state, Waiting::InException(after)), 0)
 }
 
 // Levels 1 and 5; ThreadExiting has no current level.
@@ -65,8 +66,9 @@ pub fn set_strategy(thread: u8, v: Thread, strategy: u32) -> Move
     if !has_strategy(e) {
         return answered(v, ZxError::BAD_STATE);
     }
-    let after = w.waits(w.state, Waiting::InException(e.with_second(strategy == 1)));
-    answered(after, 0)
+    let mut after = e;
+    after.second = strategy == 1;
+    answered(w.waits(w.state, Waiting::InException(after)), 0)
 }
 
 // 18: `ExceptionObject::get_process_handle`.

@@ -110,5 +110,7 @@ pub fn set_policy_timer_slack(job: u8, j: Job, empty: bool, policy: TimerSlackPo
         return answered(j, ZxError::INVALID_ARGS);
     }
     let old = w.slack;
-    answered(w.with_slack(old.generate_new(policy)), 0)
+    let mut after = w;
+    after.slack = old.generate_new(policy);
+    answered(after, 0)
 }

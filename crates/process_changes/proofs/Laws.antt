@@ -14,7 +14,7 @@ use Rattle.laws.specs.Choice.{if_then_else_}
 use Rattle.laws.specs.Lists.{any}
 use Rattle.laws.proofs.Cases.{no-both}
 use Rattle.laws.proofs.Flow.{and-stops}
-use Rattle.lists.specs.Each.{oneOf, eachIn}
+use Rattle.thread_lists.specs.Each.{oneOf, eachIn}
 use Rattle.job_policy.specs.Policy.{merge}
 use Rattle.record_job.specs.declared.Job.{Job}
 use Rattle.record_job.specs.Job.{noJob}

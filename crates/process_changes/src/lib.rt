@@ -4,10 +4,10 @@ ghost use Rattle.model.specs.JobCalls.{createProcess, exitProcessCall};
 ghost use Rattle.change.specs.Change.{Comes};
 use change::Change;
 use change::unchanged;
-use lists::Each;
 use record_process::Process;
 use record_process::Status;
 use records::tables::Tables;
+use thread_lists::Each;
 
 // 03: `Process::create_with_ext`. The policy is fixed when a process is made.
 pub fn create_with_ext(t: Tables, job: u8, new: u8) -> Change
@@ -58,7 +58,7 @@ pub fn exit(t: Tables, process: u8, code: i64) -> Change
         return c;
     }
     let exited = q.with_status(Status::Exited(code));
-    if lists::lists_thread(threads, process) {
+    if thread_lists::lists_thread(threads, process) {
         c.process = exited;
         c.each = Each::KILL;
         return c.answered(0);

@@ -82,7 +82,7 @@ pub fn finish(t: Tables, thread: u8) -> Change
     }
     let w = v.finish();
     let left = rows::with_thread(threads, thread, w);
-    if !lists::lists_thread(left, v.process) {
+    if !thread_lists::lists_thread(left, v.process) {
         return c;
     }
     c.thread = w;

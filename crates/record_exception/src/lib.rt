@@ -2,8 +2,7 @@
 // holds, with the place in the order of handlers where it was delivered.
 ghost use mathlib.Core.Path.{_≡_};
 ghost use Rattle.record_exception.specs.Channel.{isBound, isShut, tried};
-ghost use Rattle.record_exception.specs.Exception.{levelOf, currentLevel, withHandled};
-ghost use Rattle.record_exception.specs.Exception.{withSecond, exceptionAt};
+ghost use Rattle.record_exception.specs.Exception.{levelOf, currentLevel, exceptionAt};
 
 // -- Levels --------------------------------------------------------------------------------
 
@@ -144,21 +143,5 @@ impl Exception {
             handled: false,
             second: second,
         }
-    }
-
-    // `set_state`: whether closing finishes the exception.
-    pub fn with_handled(mut self, handled: bool) -> Exception
-        ensures { λ r. ⌜ r ≡ withHandled self handled ⌝ }
-    {
-        self.handled = handled;
-        self
-    }
-
-    // `set_strategy`: whether the debugger gets a second chance.
-    pub fn with_second(mut self, second: bool) -> Exception
-        ensures { λ r. ⌜ r ≡ withSecond self second ⌝ }
-    {
-        self.second = second;
-        self
     }
 }

@@ -1,7 +1,7 @@
 // record_job: the record of a job. Its policies stand in tables of their own, beside the jobs.
 ghost use mathlib.Core.Path.{_≡_};
 ghost use Rattle.record_job.specs.Job.{noJob, rootJob, newJob, killed, terminated};
-ghost use Rattle.record_job.specs.Job.{withSlack, withLevel4, withLevel5, isParent, childOf};
+ghost use Rattle.record_job.specs.Job.{withLevel4, withLevel5, isParent, childOf};
 use job_policy::TimerSlack;
 use record_exception::Level;
 
@@ -108,13 +108,6 @@ impl Job {
             level5: Level::Shut,
             slack: slack,
         }
-    }
-
-    pub fn with_slack(mut self, slack: TimerSlack) -> Job
-        ensures { λ r. ⌜ r ≡ withSlack self slack ⌝ }
-    {
-        self.slack = slack;
-        self
     }
 
     pub fn with_level4(self, level: Level) -> Job

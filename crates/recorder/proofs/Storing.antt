@@ -5,7 +5,7 @@ use mathlib.Core.List.{List, map}
 use borrow.Author.Tests.{ne-eqb}
 use lib.ListN.{length, getD, length-set, length-map}
 use Rattle.laws.specs.Choice.{if_then_else_}
-use Rattle.lists.specs.Each.{eachIn}
+use Rattle.thread_lists.specs.Each.{eachIn}
 use Rattle.laws.proofs.Tables.{read-in}
 use Rattle.job_policy.specs.declared.JobPolicy.{JobPolicy}
 use Rattle.record_job.specs.declared.Job.{Job}

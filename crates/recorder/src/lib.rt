@@ -94,7 +94,7 @@ pub fn feed(state: State, input: &[u8], out: &mut [u8]) -> Fed
                         t.tokens[w] = token;
                         if c.each != 0 {
                             let threads = t.threads;
-                            let changed = lists::each_thread(threads, c.p, c.each);
+                            let changed = thread_lists::each_thread(threads, c.p, c.each);
                             t.threads = changed;
                         }
                     } else {

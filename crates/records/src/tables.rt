@@ -1,6 +1,6 @@
 // tables.rt: the records of all names. Policies stand beside their jobs and processes, since no lookup can hold an array.
 ghost use mathlib.Core.Path.{_≡_};
-ghost use Rattle.records.specs.Tables.{freshTables, putJob, putOwn, putInherited, putProcess};
+ghost use Rattle.records.specs.Tables.{putJob, putOwn, putInherited, putProcess};
 ghost use Rattle.records.specs.Tables.{putFixed, putThread, putToken};
 use job_policy::JobPolicy;
 use record_job::Job;
@@ -45,24 +45,6 @@ pub enum FoundToken {
 // -- Storing -------------------------------------------------------------------------------
 
 impl Tables {
-    // The tables at the start: the root alone is made.
-    pub fn fresh() -> Tables
-        ensures { λ r. ⌜ r ≡ freshTables ⌝ }
-    {
-        let mut jobs = [Job::none(); 32];
-        jobs[0] = Job::root();
-        let policies = [JobPolicy::none(); 32];
-        Tables {
-            jobs: jobs,
-            own: policies,
-            inherited: policies,
-            processes: [Process::none(); 64],
-            fixed: [JobPolicy::none(); 64],
-            threads: [Thread::none(); 128],
-            tokens: [SuspendToken::none(); 64],
-        }
-    }
-
     pub fn with_job(mut self, name: u8, v: Job) -> Tables
         ensures { λ r. ⌜ r ≡ putJob self name v ⌝ }
     {

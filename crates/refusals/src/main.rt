@@ -1,5 +1,6 @@
 // refusals: each entry point turned back at each row of document 01's table that it has, in its order. Writes the
 // command's number, in decimal, and the answer.
+use fresh_tables::fresh_tables;
 use job_policy::BasicPolicy;
 use job_policy::JobPolicy;
 use job_policy::TimerSlackPolicy;
@@ -49,7 +50,7 @@ fn suspended(count: u16) -> Thread {
 // Job 1 inherits Deny for condition 4 and Kill for 6, and has job 3 and processes 0 and 2. Job 2 is killed. Process 1
 // has ended. Thread 0 is not started, thread 1 runs, thread 2 is of process 2, thread 3 is full, thread 4 waits.
 fn tasks() -> Tables {
-    let mut t = policy(Tables::fresh(), 0, 0, 6, 4).tables;
+    let mut t = policy(fresh_tables(), 0, 0, 6, 4).tables;
     t = job_calls::create_child(t, 0, 1).tables;
     t = job_calls::create_child(t, 0, 2).tables;
     t = job_calls::kill(t, 2).tables;

@@ -5,6 +5,7 @@ ghost use lib.ListN.{length};
 ghost use Rattle.io.specs.Counts.{Counts};
 ghost use Rattle.lines.specs.Line.{Put};
 ghost use Rattle.stream_state.specs.State.{nextNumber, freshState, closedWithin};
+use fresh_tables::fresh_tables;
 use records::tables::Tables;
 
 // The tables, and the number of the last line.
@@ -21,7 +22,7 @@ pub fn fresh() -> State
     ensures { λ r. ⌜ r ≡ freshState ⌝ }
 {
     State {
-        tables: Tables::fresh(),
+        tables: fresh_tables(),
         number: 0,
     }
 }

@@ -12,7 +12,7 @@ use Rattle.laws.specs.Guarded.{_>>_, _>>=_, refuse_when_, deny_when_}
 use Rattle.laws.specs.Lists.{any}
 use Rattle.laws.proofs.Flow.{passes}
 use Rattle.laws.proofs.Cases.{if-on}
-use Rattle.lists.specs.Each.{hasCount, oneOf, eachIn}
+use Rattle.thread_lists.specs.Each.{hasCount, oneOf, eachIn}
 use Rattle.record_thread.specs.Thread.{FULL}
 use Rattle.records.specs.declared.tables.Tables.{Tables}
 use Rattle.reply.specs.declared.Reply.{Reply}

@@ -6,7 +6,7 @@ use mathlib.Core.List.{List}
 use lib.IntN.{ℤ, pos}
 use Rattle.laws.specs.Choice.{_=?_, _≤?_, if_then_else_}
 use Rattle.laws.specs.Lists.{any}
-use Rattle.lists.specs.Each.{hasCount}
+use Rattle.thread_lists.specs.Each.{hasCount}
 use Rattle.record_thread.specs.declared.Thread.{Thread}
 use Rattle.change.specs.declared.Change.{Change}
 use Rattle.change.specs.Change.{answered, withEach}

@@ -7,10 +7,10 @@ ghost use Rattle.suspend_changes.specs.TaskChange.{taskChange};
 use change::Change;
 use change::unchanged;
 use error::Refusal;
-use lists::Each;
 use record_thread::Thread;
 use record_token::Kind;
 use records::tables::Tables;
+use thread_lists::Each;
 
 // Each thread of a process changed, or the refusal where one has the count that stands in the way. A job
 // can't be suspended: the Rust panics.
@@ -45,7 +45,7 @@ fn task_change(
     if !q.made {
         return c.answered(Refusal::NOT_MADE);
     }
-    if lists::some_count(threads, name, count) {
+    if thread_lists::some_count(threads, name, count) {
         return c.answered(refusal);
     }
     c.each = each;

@@ -1,6 +1,10 @@
 // suspend_token: suspending and resuming a task, and tokens. Follows suspend_token.rs, and `suspend` and `resume` of
 // thread.rs and process.rs. Kind 1 is a process: each thread that it lists is concerned; kind 2 is a thread.
+ghost use mathlib.Core.List.{map};
 ghost use mathlib.Core.Path.{_≡_};
+ghost use Rattle.laws.specs.Lists.{any};
+ghost use Rattle.records.specs.Tables.{withThreads};
+ghost use Rattle.thread_lists.specs.Each.{hasCount, eachIn};
 ghost use Rattle.model.specs.SuspendToken.{someAt, suspendTask, resumeTask, createToken};
 ghost use Rattle.model.specs.SuspendToken.{dropToken};
 use reading::thread_at;
@@ -8,13 +12,32 @@ use reading::token_at;
 use record_token::Kind;
 use record_token::SuspendToken;
 use records::tables::Tables;
+use thread_lists::Each;
+
+// Whether process p lists a thread with this suspend count.
+fn some_count(t: Tables, p: u8, count: u16) -> bool
+    ensures { λ r. ⌜ r ≡ any (hasCount p count) (t .threads) ⌝ }
+{
+    let threads = t.threads;
+    thread_lists::some_count(threads, p, count)
+}
+
+// Each thread that process p lists is changed.
+fn each_thread(mut t: Tables, p: u8, each: u8) -> Tables
+    ensures { λ r. ⌜ r ≡ withThreads t (map (eachIn each p) (t .threads)) ⌝ }
+{
+    let threads = t.threads;
+    let changed = thread_lists::each_thread(threads, p, each);
+    t.threads = changed;
+    t
+}
 
 // Whether a thread concerned has this suspend count.
 pub fn some_at(t: Tables, kind: u8, name: u8, count: u16) -> bool
     ensures { λ r. ⌜ r ≡ someAt t kind name count ⌝ }
 {
     if kind == Kind::PROCESS {
-        return scans::some_count(t, name, count);
+        return some_count(t, name, count);
     }
     thread_at(t, name).suspends == count
 }
@@ -24,7 +47,7 @@ pub fn suspend_task(t: Tables, kind: u8, name: u8) -> Tables
     ensures { λ r. ⌜ r ≡ suspendTask t kind name ⌝ }
 {
     if kind == Kind::PROCESS {
-        return scans::suspend_threads(t, name);
+        return each_thread(t, name, Each::SUSPEND);
     }
     t.with_thread(name, thread_at(t, name).suspend())
 }
@@ -34,7 +57,7 @@ pub fn resume_task(t: Tables, kind: u8, name: u8) -> Tables
     ensures { λ r. ⌜ r ≡ resumeTask t kind name ⌝ }
 {
     if kind == Kind::PROCESS {
-        return scans::resume_threads(t, name);
+        return each_thread(t, name, Each::RESUME);
     }
     t.with_thread(name, thread_at(t, name).resume())
 }

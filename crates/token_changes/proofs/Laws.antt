@@ -11,7 +11,7 @@ use Rattle.laws.specs.Guarded.{Guarded, _>>_, refuse_when_}
 use Rattle.laws.specs.Lists.{any}
 use Rattle.laws.proofs.Flow.{passes}
 use Rattle.laws.proofs.Cases.{if-on}
-use Rattle.lists.specs.Each.{hasCount}
+use Rattle.thread_lists.specs.Each.{hasCount}
 use Rattle.record_job.specs.declared.Job.{Job}
 use Rattle.record_process.specs.declared.Process.{Process}
 use Rattle.record_thread.specs.declared.Thread.{Thread}

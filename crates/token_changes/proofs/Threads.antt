@@ -8,7 +8,7 @@ use borrow.Author.Tests.{ne-eqb}
 use lib.IntN.{pos}
 use Rattle.laws.specs.Choice.{_=?_, if_then_else_}
 use Rattle.laws.specs.Lists.{any}
-use Rattle.lists.specs.Each.{hasCount, oneOf, eachIn}
+use Rattle.thread_lists.specs.Each.{hasCount, oneOf, eachIn}
 use Rattle.record_thread.specs.declared.Thread.{Thread}
 use Rattle.record_thread.specs.Thread.{suspend, resume}
 use Rattle.record_token.specs.declared.SuspendToken.{SuspendToken}

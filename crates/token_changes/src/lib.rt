@@ -6,10 +6,10 @@ ghost use Rattle.token_changes.specs.TokenChanges.{taskMade};
 use change::Change;
 use change::unchanged;
 use error::Refusal;
-use lists::Each;
 use record_token::Kind;
 use record_token::SuspendToken;
 use records::tables::Tables;
+use thread_lists::Each;
 
 // Whether the task of this kind is made, of the three that have the name.
 fn task_made(c: Change, kind: u8) -> bool
@@ -54,7 +54,7 @@ pub fn create(t: Tables, new: u8, kind: u8, name: u8) -> Change
     let w = SuspendToken::new(kind, name);
     if kind == Kind::PROCESS {
         let threads = t.threads;
-        if lists::some_count(threads, name, 65535) {
+        if thread_lists::some_count(threads, name, 65535) {
             return c.answered(Refusal::FULL);
         }
         c.each = Each::SUSPEND;

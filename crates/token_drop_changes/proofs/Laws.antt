@@ -9,7 +9,7 @@ use Rattle.laws.specs.Choice.{_=?_, if_then_else_}
 use Rattle.laws.specs.Guarded.{Guarded, _>>_, refuse_when_}
 use Rattle.laws.specs.Lists.{any}
 use Rattle.laws.proofs.Flow.{passes}
-use Rattle.lists.specs.Each.{hasCount}
+use Rattle.thread_lists.specs.Each.{hasCount}
 use Rattle.record_thread.specs.Thread.{resume}
 use Rattle.record_token.specs.declared.SuspendToken.{SuspendToken}
 use Rattle.record_token.specs.SuspendToken.{drop}

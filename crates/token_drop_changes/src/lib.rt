@@ -4,9 +4,9 @@ ghost use Rattle.change.specs.Change.{Comes};
 use change::Change;
 use change::unchanged;
 use error::Refusal;
-use lists::Each;
 use record_token::Kind;
 use records::tables::Tables;
+use thread_lists::Each;
 
 // 0e: a token dropped.
 pub fn drop(t: Tables, token: u8) -> Change
@@ -24,7 +24,7 @@ pub fn drop(t: Tables, token: u8) -> Change
     let w = k.drop();
     if k.kind == Kind::PROCESS {
         let threads = t.threads;
-        if lists::some_count(threads, k.name, 0) {
+        if thread_lists::some_count(threads, k.name, 0) {
             return c.answered(Refusal::PANICS);
         }
         c.each = Each::RESUME;

@@ -34,6 +34,8 @@ use Rattle.job.proofs.kill_job.Kinds as kill-job-kinds
 use Rattle.job.proofs.+end_process+exit_process+kill_job.Lts-kill_job as kill-job-lts
 use Rattle.job.proofs.is_live_job.Reads as is-live-job-reads
 use Rattle.job.proofs.is_live_process.Reads as is-live-process-reads
+use Rattle.job.proofs.lists_thread.Reads as lists-thread-reads
+use Rattle.job.proofs.stop_threads.Reads as stop-threads-reads
 use Rattle.job_lists.proofs.job_empty.Reads as job-empty-reads
 use Rattle.job_lists.proofs.terminate_job.Reads as terminate-job-reads
 use Rattle.job_lists.proofs.unlist_process.Reads as unlist-process-reads
@@ -47,8 +49,6 @@ use Rattle.reading.proofs.job_at.Reads as job-at-reads
 use Rattle.reading.proofs.process_at.Reads as process-at-reads
 use Rattle.records.proofs.tables.Tables.with_job.Reads as with-job-reads
 use Rattle.records.proofs.tables.Tables.with_process.Reads as with-process-reads
-use Rattle.scans.proofs.lists_thread.Reads as lists-thread-reads
-use Rattle.scans.proofs.stop_threads.Reads as stop-threads-reads
 use Rattle.job.proofs.+end_process+exit_process+kill_job.{statement}
 use Rattle.job.proofs.+end_process+exit_process+kill_job.Tie.{close}
 

@@ -1,7 +1,6 @@
 use Prim.Native.Nat.{_-_}
-use Rattle.laws.proofs.Loops.{any-here, any-next, any-none, length-mapped}
+use Rattle.laws.proofs.Loops.{Searched, any-here, any-next, any-none, length-mapped}
 use Rattle.record_process.specs.Process.{noProcess, memberOf}
-use Rattle.lists.proofs.Laws.{Searched}
 use borrow.Author.Needs.{needs}
 use Rattle.lists.proofs.lists_process.Statement.{statement}
 use Rattle.lists.proofs.lists_process.Tie as tie

@@ -43,5 +43,4 @@ set-state-spec =
     (λ c t h. search moving depth 20)
     (λ c κs. search needs)
     (λ c κs. search needs)
-    (λ c κs. search needs)
-    (λ c t h. past (c .before .before .before) t h (simp (c .before .waits .ensures, c .before .before .with-handled .ensures) at (c .answered5 .ensures))))
+    (λ c t h. past (c .before .before) t h (simp (c .before .waits .ensures) at (c .answered5 .ensures))))

@@ -52,5 +52,4 @@ set-strategy-spec =
     (λ c t h. past-then3 (c .before) t h (c .answered5 .ensures))
     (λ c κs. search needs)
     (λ c κs. search needs)
-    (λ c κs. search needs)
-    (λ c t h. past-else3 (c .before .before .before) t h (simp (c .before .waits .ensures, c .before .before .with-second .ensures) at (c .answered6 .ensures))))
+    (λ c t h. past-else3 (c .before .before) t h (simp (c .before .waits .ensures) at (c .answered6 .ensures))))

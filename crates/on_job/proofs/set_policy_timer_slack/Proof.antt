@@ -69,8 +69,7 @@ set-policy-timer-slack-spec =
     ((λ t h k. search (moving, s) depth 20), alone (c .answered5 .ensures)))
     (λ c κs. search needs)
     (λ c κs. search needs)
-    (λ c κs. search needs)
     (λ c.
-    let b = c .before .before .before .before in
-    let e = simp (c .before .with-slack .ensures, c .before .before .generate-new .ensures) at (c .answered6 .ensures) in
+    let b = c .before .before .before in
+    let e = simp (c .before .generate-new .ensures) at (c .answered6 .ensures) in
     ((λ t h k. past-slack b t h k (stored b t e)), alone e)))
