@@ -73,7 +73,7 @@ fn feed_list(state: State, list: &[u8], out: &mut [u8]) -> Ran
 
 // The end of a list: the line of a command that was cut.
 fn close(state: State, left: &[u8], out: &mut [u8]) -> bool {
-    if out.len() < stream_state::LINE {
+    if out.len() < lines::LINE {
         return false;
     }
     let n = stream_state::close(state, left, out);

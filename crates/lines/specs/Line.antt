@@ -100,6 +100,10 @@ lineOf number answer fields p =
 unfoldable pub stopLine : (number : ℕ) → List ℕ
 stopLine number = decimalText number ++ field (115 ∷ 116 ∷ 111 ∷ 112 ∷ NEWLINE ∷ [])
 
+-- nothing, where there is no room for every line
+unfoldable pub within : (room : ℕ) (line : List ℕ) → List ℕ
+within room line = if room <? 128 then [] else line
+
 -- ---- What the contracts say ----------------------------------------------------------------
 
 -- text stands in a buffer from `at` to r, and what was before `at` is as it was

@@ -1,10 +1,9 @@
-// lines: a reply as a line of text in a lent buffer. No line is longer than 128 bytes.
-// Helpers of the recorder, not entry points: `feed` and `close` check the room, so they may require it.
-ghost use Prim.Native.Nat.{_+_, _≤_};
+// lines: a reply as a line of text in a lent buffer. No line is longer than 128 bytes, and none is begun with less room.
+ghost use Prim.Native.Nat.{_+_, _-_, _≤_};
 ghost use lib.ListN.{length};
 ghost use Rattle.lines.specs.Line.{field, flagText, decimalText, signedText, policyText};
 ghost use Rattle.lines.specs.Line.{jobText, processText, threadText, fieldsText};
-ghost use Rattle.lines.specs.Line.{lineOf, stopLine, Put};
+ghost use Rattle.lines.specs.Line.{lineOf, stopLine, within, Put};
 use job_policy::JobPolicy;
 use reply::Fields;
 
@@ -16,6 +15,9 @@ use crate::texts::put_flag;
 use crate::texts::put_policy;
 use crate::texts::put_signed;
 use crate::texts::put_text;
+
+// No line is longer.
+pub const LINE: usize = 128;
 
 // -- A field: a space and its text ---------------------------------------------------------
 
@@ -141,8 +143,7 @@ fn put_fields(out: &mut [u8], at: usize, fields: Fields, policy: JobPolicy) -> u
 
 // -- A line --------------------------------------------------------------------------------
 
-// The line of a call; answers where the next line begins.
-pub fn put_line(
+fn line_at(
     out: &mut [u8],
     at: usize,
     number: u64,
@@ -161,12 +162,48 @@ pub fn put_line(
     put_byte(out, c, b'\n')
 }
 
-// The line that ends the recording.
-pub fn put_stop(out: &mut [u8], at: usize, number: u64) -> usize
+fn stop_at(out: &mut [u8], at: usize, number: u64) -> usize
     requires { ⌜ at + 128 ≤ length (now out) ⌝ }
     ensures { λ r. ⌜ Put (now (out .entry)) (now (out .exit)) at r (stopLine number) ⌝ }
     ensures { λ r. ⌜ r ≤ at + 128 ⌝ }
 {
     let end = put_decimal(out, at, number);
     put_text(out, end, b" stop\n")
+}
+
+// The line of a call; answers where the next line begins.
+pub fn put_line(
+    out: &mut [u8],
+    at: usize,
+    number: u64,
+    answer: i64,
+    fields: Fields,
+    policy: JobPolicy,
+) -> usize
+    ensures { λ r. ⌜ Put (now (out .entry)) (now (out .exit)) at r
+        (within (length (now (out .entry)) - at) (lineOf number answer fields policy)) ⌝ }
+    ensures { λ r. ⌜ r ≤ at + 128 ⌝ }
+{
+    if out.len() < at {
+        return at;
+    }
+    if out.len() - at < LINE {
+        return at;
+    }
+    line_at(out, at, number, answer, fields, policy)
+}
+
+// The line that ends the recording.
+pub fn put_stop(out: &mut [u8], at: usize, number: u64) -> usize
+    ensures { λ r. ⌜ Put (now (out .entry)) (now (out .exit)) at r
+        (within (length (now (out .entry)) - at) (stopLine number)) ⌝ }
+    ensures { λ r. ⌜ r ≤ at + 128 ⌝ }
+{
+    if out.len() < at {
+        return at;
+    }
+    if out.len() - at < LINE {
+        return at;
+    }
+    stop_at(out, at, number)
 }

@@ -9,7 +9,7 @@ use commands::Next;
 use feeding::Fed;
 use feeding::fed_at;
 use job_policy::JobPolicy;
-use stream_state::LINE;
+use lines::LINE;
 use stream_state::State;
 
 // Performs whole commands from the front of `input` while `out` has room for a line, and says how far it came.

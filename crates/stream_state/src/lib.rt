@@ -6,6 +6,7 @@ ghost use Rattle.io.specs.Counts.{Counts};
 ghost use Rattle.lines.specs.Line.{Put};
 ghost use Rattle.stream_state.specs.State.{nextNumber, freshState, closedWithin};
 use fresh_tables::fresh_tables;
+use lines::LINE;
 use records::tables::Tables;
 
 // The tables, and the number of the last line.
@@ -13,9 +14,6 @@ pub struct State {
     pub tables: Tables,
     pub number: u64,
 }
-
-// No line is longer.
-pub const LINE: usize = 128;
 
 // A fresh root, and no line yet.
 pub fn fresh() -> State

@@ -1,32 +1,30 @@
 use native.Mathlib.Omega.{arith}
 use borrow.Author.Needs.{needs}
-use Rattle.lines.specs.Line.{lineOf}
-use Rattle.lines.proofs.Puts.{put-then}
-use Rattle.lines.proofs.Numbers.{put-read}
+use Rattle.lines.proofs.Numbers.{number-is}
+use Rattle.lines.proofs.Puts.{no-room, with-room}
 use Rattle.lines.proofs.put_line.Statement.{statement}
 use Rattle.lines.proofs.put_line.Tie as tie
 
 returns : tie.Need-returns
-unfolding lineOf
-returns c =
-    let e = c .before .before in
-    let f = e .before .before .before .before in
-    let a = f .before .before .before .before in
-    let d = a .before .before .before .before in
-    let s₀ = d .before .before .before in
-    let n = put-read (s₀ .args .answer) (s₀ .fits .answer) (a .signed-field .ensures .0) in
-    let p₁ = put-then (d .put-decimal .ensures .0) n in
-    let p₂ = put-then p₁ (f .put-fields .ensures .0) in
-    let p₃ = put-then p₂ (e .put-byte .ensures) in
-    (p₃, omega arith)
+returns c = (no-room _ _ _ (omega arith), omega arith)
+
+returns-2 : tie.Need-returns-2
+returns-2 c = (no-room _ _ _ (c .if2 .taken), omega arith)
+
+returns-3 : tie.Need-returns-3
+returns-3 c =
+    let p = c .before .before in
+    let s = p .before .before .before .before .before in
+    let line = rw (number-is _ (s .fits .answer)) at (p .line-at .ensures .0) in
+    (with-room (p .before .before .if2 .left) line, p .line-at .ensures .1)
 
 pub put-line-spec : {M : Type 1} → statement M
 put-line-spec =
     tie.close
     (tie.spec
-    (λ c κs. search needs)
-    (λ c κs. search needs)
-    (λ c κs. search needs)
+    returns
+    (λ c. search needs)
+    returns-2
     (λ c κs. search needs)
     (λ c. search needs)
-    returns)
+    returns-3)

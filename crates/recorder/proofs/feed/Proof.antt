@@ -14,6 +14,7 @@ use mir.Facts.{toZ-ofZ}
 use Rattle.stream_state.specs.declared.State.{State}
 use Rattle.stream_state.specs.State.{nextNumber, stateOf}
 use Rattle.feeding.specs.Recorder.{fed, ahead}
+use Rattle.lines.proofs.Puts.{roomy}
 use Rattle.laws.proofs.Loops.{length-mapped}
 use Rattle.records.specs.Tables.{Sized}
 use Rattle.slots.specs.declared.Slots.{Slots}
@@ -97,7 +98,7 @@ returns-3 c =
     let n = t .before .before in
     let e = n .before .before in
     let l = e .before in
-    let put = simp (p .before .next-number .ensures) at (p .put-stop .ensures .0) in
+    let put = simp (p .before .next-number .ensures) at (roomy (e .if1 .left) (p .put-stop .ensures .0)) in
     let b : p .put-stop .result ≤ length (p .put-stop .last .0) =
     omega (arith, p .put-stop .ensures .1, p .put-stop .kept .0, e .if1 .left) in
     rw (c .fed-at3 .ensures) (
@@ -152,7 +153,7 @@ loop-again c =
     let e = n .before .before in
     let l = e .before in
     let got : SFits w64 (d .decide .result .answer) = search (needs, d .decide .ok) in
-    let put = simp (m .next-number2 .ensures, toZ-ofZ {w = w64} got) at (p .put-line .ensures .0) in
+    let put = simp (m .next-number2 .ensures, toZ-ofZ {w = w64} got) at (roomy (e .if1 .left) (p .put-line .ensures .0)) in
     let z = holds-there (holds (l .loop .t) (s .slots-of .result) _ _ _ _ _ _ (l .loop .inv .0) (s .slots-of .ensures .1))
     (s .slots-of .ensures .0) in
     let r = ap (λ (y : Slots). storedAt (l .loop .t) y (d .decide .result)) (s .slots-of .ensures .0)
@@ -202,7 +203,8 @@ came c u h =
     let e = n .before .before in
     let l = e .before in
     let got : SFits w64 (d .change-of .result .answer) = record { sfits = d .change-of .ok .1 .1 .1 .0 .1 } in
-    let put = as-lined _ (m .next-number2 .ensures) (toZ-ofZ {w = w64} got) (o .none .ensures) (p .put-line2 .ensures .0) in
+    let put = as-lined _ (m .next-number2 .ensures) (toZ-ofZ {w = w64} got) (o .none .ensures)
+    (roomy (e .if1 .left) (p .put-line2 .ensures .0)) in
     goes (input l) (out₀ l) (l .loop .out) (state l) (here l) (l .loop .at) (l .loop .written)
     (l .loop .inv .1)
     (e .if1 .left) _ (n .next-of .ensures) _ (k .n .given .1)
@@ -277,7 +279,7 @@ loop-again-4 c =
       tokens = search (length-mapped, o .1 .1 .1 .1 .1 .1 .0);
     } in
     let got : SFits w64 (f .perform .result .answer) = search (needs, f .perform .ok) in
-    let put = simp (m .next-number2 .ensures, toZ-ofZ {w = w64} got) at (p .put-line3 .ensures .0) in
+    let put = simp (m .next-number2 .ensures, toZ-ofZ {w = w64} got) at (roomy (e .if1 .left) (p .put-line3 .ensures .0)) in
     let g =
     goes (input l) (out₀ l) (l .loop .out) (state l) (here l) (l .loop .at) (l .loop .written)
     (l .loop .inv .1)
@@ -313,7 +315,7 @@ feed-spec =
     returns-2
     (λ c. search needs)
     (λ c κs. tt)
-    (λ c κs. omega (arith, c .before .before .before .before .before .before .if1 .left))
+    (λ c κs. tt)
     (λ c κs. tt)
     (λ c. c .before .before .before .put-stop .kept .0 ∙ c .before .before .before .before .before
     .before .before .before .before .before .before .loop .inv .1 .1 .1 .0)
@@ -340,7 +342,7 @@ feed-spec =
       fits (sized c) .1,
       sized c .before .before .before .before .before .before .before .before .before .good .1 .0 .0,
     ))
-    (λ c κs. omega (arith, sized (c .before .before .before .before) .before .before .before .before .if1 .left))
+    (λ c κs. tt)
     (λ c. omega (arith, placed c .slots-of .ensures .1 .0))
     (λ c. omega (arith, placed c .slots-of .ensures .1 .0))
     (λ c. omega (arith, placed c .slots-of .ensures .1 .1 .0))
@@ -351,7 +353,7 @@ feed-spec =
     loop-again
     (λ c κs. tt)
     (λ c κs. tt)
-    (λ c κs. omega (arith, sized (c .before .before .before .before .before .before) .before .before .before .before .if1 .left))
+    (λ c κs. tt)
     (λ c. search needs)
     (λ c. search needs)
     (λ c. search needs)
@@ -376,6 +378,6 @@ feed-spec =
     (λ c. omega (arith, fits (sized-2 (c .before .before)) .0, fits (sized-2 (c .before .before)) .1))
     loop-again-3
     (λ c κs. tt)
-    (λ c κs. omega (arith, sized (c .before .before .before .before .before .before .before) .before .before .before .before .if1 .left))
+    (λ c κs. tt)
     (λ c. omega (arith, fits (sized (numbered-3 c)) .0, fits (sized (numbered-3 c)) .1))
     loop-again-4)

@@ -1,11 +1,12 @@
 use mathlib.Core.Path.{_≡_, refl, sym}
-use Prim.Native.Nat.{_≤_}
+use Prim.Native.Nat.{_-_, _≤_}
 use native.Mathlib.Omega.{arith}
 use lib.ListN.{length}
 use lib.Seq.{length-take-le}
 use borrow.Author.Needs.{needs}
 use borrow.Author.Tests.{eq-eqb, ne-eqb, lt-ltb, le-ltb}
 use Rattle.laws.specs.Choice.{if_then_else_}
+use Rattle.lines.proofs.Puts.{roomy}
 use Rattle.stream_state.specs.State.{closing, closedWithin}
 use Rattle.stream_state.proofs.close.Statement.{statement}
 use Rattle.stream_state.proofs.close.Tie as tie
@@ -32,9 +33,10 @@ returns-3 c =
     let two = p .before .before .before in
     let n = p .before .next-number .ensures in
     let room = two .before .if1 .left in
+    let h : 128 ≤ length (two .before .before .before .before .args .out .now) - 0 = omega (arith, room) in
     let b : p .put-stop .result ≤ length (p .put-stop .last .0) =
     omega (arith, p .put-stop .ensures .1, p .put-stop .kept .0, room) in (
-      simp (le-ltb _ _ room, ne-eqb _ _ (two .if2 .left), ← n) (p .put-stop .ensures .0),
+      simp (le-ltb _ _ room, ne-eqb _ _ (two .if2 .left), ← n) (roomy h (p .put-stop .ensures .0)),
       (b, sym (length-take-le _ _ b)),
     )
 
