@@ -44,15 +44,14 @@ use Rattle.deciding.specs.Deciding.{Named, Holds, Stands, Decides}
 
 -- f is told of the records in the tables, and comes to what stands in the decision
 pub about-thread : {f : Tables → Reply} {d : Decided} {m : ThreadMove.Move} (n p k : ℕ) (x : Named) →
-    d ≡ byThread m (x .process) (x .job) →
-    ((t : Tables) → Holds t (slotsOf n p k) x → thread.moved t n m ≡ f t) → Stands f (slotsOf n p k) x d
+    d ≡ byThread m (x .process) (x .job) → thread.Moves f n (x .thread) m → Stands f (slotsOf n p k) x d
 unfolding storedAt thread.moved reply processAt jobAt putThread
 about-thread n p k x e h t a y =
     rw (
       e,
       process-laws.kept (putThread t (n % 128) _) (p % 64) (a .process),
       job-laws.kept (putThread t (n % 128) _) (k % 32) (a .job),
-    ) (h t a)
+    ) (h t (a .thread))
 
 pub about-process : {f : Tables → Reply} {d : Decided} {m : ProcessMove.Move} (n p k : ℕ) (x : Named) →
     d ≡ byProcess m (x .thread) (x .job) →
@@ -102,8 +101,7 @@ pub left-open : (f : Tables → Reply) {d : Decided} (s : Slots) (x : Named) →
 left-open f s x e t a y = absurd (true≢false (sym y ∙ ap (λ (d : Decided). d .decided) e))
 
 pub if-thread : {f : Tables → Reply} {d : Decided} (e : ThreadEarly.Early) (n p k : ℕ) (x : Named) →
-    d ≡ earlyThread e (x .thread) (x .process) (x .job) →
-    ((t : Tables) → Holds t (slotsOf n p k) x → e .is_open ≡ false → thread.moved t n (e .done) ≡ f t) →
+    d ≡ earlyThread e (x .thread) (x .process) (x .job) → thread.Settles f n (x .thread) e →
     Stands f (slotsOf n p k) x d
 unfolding earlyThread if_then_else_
 if-thread {f} {d} e n p k x r h = go (e .is_open) refl
@@ -136,9 +134,8 @@ if-job {f} {d} e n p k x r h = go (e .is_open) refl
 
 -- ---- At a code, as the match finds it ----------------------------------------------------------
 
-pub at-code : (bs : List ℕ) (d : Decided) {code : ℕ} (k : ℕ) (x : Named) →
-    code ≡ byte bs 0 → code ≡ k →
-    Stands (λ t. step t (callBy k (byte bs 1) (byte bs 2) (byte bs 3) bs)) (slotsBy k (byte bs 1) (byte bs 2)) x d →
-    Decides bs x d
+pub at-code : (bs : List ℕ) (d : Decided) {a b code : ℕ} (k : ℕ) (x : Named) →
+    a ≡ byte bs 1 → b ≡ byte bs 2 → code ≡ byte bs 0 → code ≡ k →
+    Stands (λ t. step t (callBy k a b (byte bs 3) bs)) (slotsBy k a b) x d → Decides bs x d
 unfolding callIn slotsIn
-at-code bs d k x c m h = rw (← c, m) h
+at-code bs d k x first second c m h = rw (← c, m, ← first, ← second) h

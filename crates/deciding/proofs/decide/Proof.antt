@@ -1,13 +1,28 @@
+use Prim.Native.Nat.{ℕ}
+use mathlib.Core.Path.{_≡_}
 use Rattle.laws.specs.Choice.{if_then_else_}
+use Rattle.commands.specs.Commands.{byte}
 use Rattle.model.specs.Step.{step}
 use Rattle.model.specs.JobCalls.{exitProcessCall, killProcess}
 use Rattle.calls.specs.Calls.{callBy}
 use Rattle.slots.specs.Slots.{slotsBy}
+use Rattle.deciding.specs.declared.Decided.{Decided}
+use Rattle.deciding.specs.Deciding.{Named, Stands, Decides}
 use Rattle.deciding.proofs.Arms.{at-code, about-thread, about-process, about-job}
 use Rattle.deciding.proofs.Arms.{about-both, if-thread, if-process, if-job, left-open}
 use borrow.Author.Needs.{needs}
 use Rattle.deciding.proofs.decide.Statement.{statement}
 use Rattle.deciding.proofs.decide.Tie as tie
+
+-- a command of code k, as its first three bytes were read
+by-code : (k : ℕ) (c : tie.After-byte-at3) (x : Named) (d : Decided) →
+    let bs = c .before .before .before .before .args .s .now in
+    let a = c .before .before .byte-at .result in
+    let b = c .before .byte-at2 .result in
+    c .byte-at3 .result ≡ k →
+    Stands (λ t. step t (callBy k a b (byte bs 3) bs)) (slotsBy k a b) x d → Decides bs x d
+by-code k c x d =
+    at-code _ d k x (c .before .before .byte-at .ensures) (c .before .byte-at2 .ensures) (c .byte-at3 .ensures)
 
 pub decide-spec : {M : Type 1} → statement M
 unfolding step callBy slotsBy if_then_else_ exitProcessCall killProcess
@@ -72,212 +87,86 @@ decide-spec =
     (λ c κs. search needs)
     (λ c κs. search needs)
     (λ c.
-    let m = c .before .before in
-    let h = simp (
-      m .before .before .before .byte-at .ensures,
-      m .before .before .byte-at2 .ensures,
-    ) at (c .before .kill .ensures) in
-    at-code _ _ 2 _ (m .before .byte-at3 .ensures) (m .match .keys1)
-    (if-job _ _ _ _ _ (c .early-job .ensures) (λ t a o. h t (a .job) o)))
+    by-code 2 (c .before .before .before) _ _ (c .before .before .match .keys1)
+    (if-job _ _ _ _ _ (c .early-job .ensures) (λ t a o. c .before .kill .ensures t (a .job) o)))
     (λ c.
-    let m = c .before .before in
-    let h = simp (
-      m .before .before .before .byte-at .ensures,
-      m .before .before .byte-at2 .ensures,
-    ) at (c .before .create-with-ext .ensures) in
-    at-code _ _ 3 _ (m .before .byte-at3 .ensures) (m .match .keys2)
-    (if-process _ _ _ _ _ (c .early-process .ensures) (λ t a o. h t (a .process) (a .job) o)))
+    by-code 3 (c .before .before .before) _ _ (c .before .before .match .keys2)
+    (if-process _ _ _ _ _ (c .early-process .ensures) (λ t a o. c .before .create-with-ext .ensures t (a .process) (a .job) o)))
     (λ c.
-    let m = c .before .before in
-    let h = simp (
-      m .before .before .before .byte-at .ensures,
-      m .before .before .byte-at2 .ensures,
-    ) at (c .before .start .ensures) in
-    at-code _ _ 4 _ (m .before .byte-at3 .ensures) (m .match .keys3)
-    (about-both _ _ _ _ (c .by-both .ensures) (λ t a. h t (a .process) (a .thread))))
+    by-code 4 (c .before .before .before) _ _ (c .before .before .match .keys3)
+    (about-both _ _ _ _ (c .by-both .ensures) (λ t a. c .before .start .ensures t (a .process) (a .thread))))
     (λ c.
-    let m = c .before .before in
-    let h = simp (
-      m .before .before .before .byte-at .ensures,
-      m .before .before .byte-at2 .ensures,
-    ) at (c .before .exit .ensures) in
-    at-code _ _ 5 _ (m .before .byte-at3 .ensures) (m .match .keys4)
-    (if-process _ _ _ _ _ (c .early-process2 .ensures) (λ t a o. h _ t (a .process) o)))
+    by-code 5 (c .before .before .before) _ _ (c .before .before .match .keys4)
+    (if-process _ _ _ _ _ (c .early-process2 .ensures) (λ t a o. c .before .exit .ensures _ t (a .process) o)))
     (λ c.
-    let m = c .before .before in
-    let h = simp (
-      m .before .before .before .byte-at .ensures,
-      m .before .before .byte-at2 .ensures,
-    ) at (c .before .exit2 .ensures) in
-    at-code _ _ 6 _ (m .before .byte-at3 .ensures) (m .match .keys5)
-    (if-process _ _ _ _ _ (c .early-process3 .ensures) (λ t a o. h _ t (a .process) o)))
+    by-code 6 (c .before .before .before) _ _ (c .before .before .match .keys5)
+    (if-process _ _ _ _ _ (c .early-process3 .ensures) (λ t a o. c .before .exit2 .ensures _ t (a .process) o)))
     (λ c.
-    let m = c .before .before .before in
-    let h = simp (
-      m .before .before .before .byte-at .ensures,
-      m .before .before .byte-at2 .ensures,
-      c .before .before .byte-at4 .ensures,
-    ) at (c .before .set-critical-at-job .ensures) in
-    at-code _ _ 7 _ (m .before .byte-at3 .ensures) (m .match .keys6)
+    let h = simp (c .before .before .byte-at4 .ensures) at (c .before .set-critical-at-job .ensures) in
+    by-code 7 (c .before .before .before .before) _ _ (c .before .before .before .match .keys6)
     (if-process _ _ _ _ _ (c .early-process4 .ensures) (λ t a o. h t (a .process) (a .job) o)))
     (λ c.
-    let m = c .before .before in
-    let h = simp (
-      m .before .before .before .byte-at .ensures,
-      m .before .before .byte-at2 .ensures,
-    ) at (c .before .create-thread .ensures) in
-    at-code _ _ 8 _ (m .before .byte-at3 .ensures) (m .match .keys7)
-    (about-both _ _ _ _ (c .by-both2 .ensures) (λ t a. h t (a .process) (a .thread))))
+    by-code 8 (c .before .before .before) _ _ (c .before .before .match .keys7)
+    (about-both _ _ _ _ (c .by-both2 .ensures) (λ t a. c .before .create-thread .ensures t (a .process) (a .thread))))
     (λ c.
-    let m = c .before .before in
-    let h = simp (
-      m .before .before .before .byte-at .ensures,
-      m .before .before .byte-at2 .ensures,
-    ) at (c .before .start2 .ensures) in
-    at-code _ _ 9 _ (m .before .byte-at3 .ensures) (m .match .keys8)
-    (about-thread _ _ _ _ (c .by-thread .ensures) (λ t a. h t (a .thread))))
+    by-code 9 (c .before .before .before) _ _ (c .before .before .match .keys8)
+    (about-thread _ _ _ _ (c .by-thread .ensures) (c .before .start2 .ensures)))
     (λ c.
-    let m = c .before .before in
-    let h = simp (
-      m .before .before .before .byte-at .ensures,
-      m .before .before .byte-at2 .ensures,
-    ) at (c .before .kill2 .ensures) in
-    at-code _ _ 10 _ (m .before .byte-at3 .ensures) (m .match .keys9)
-    (about-thread _ _ _ _ (c .by-thread2 .ensures) (λ t a. h t (a .thread))))
+    by-code 10 (c .before .before .before) _ _ (c .before .before .match .keys9)
+    (about-thread _ _ _ _ (c .by-thread2 .ensures) (c .before .kill2 .ensures)))
     (λ c.
-    let m = c .before .before in
-    let h = simp (
-      m .before .before .before .byte-at .ensures,
-      m .before .before .byte-at2 .ensures,
-    ) at (c .before .exit3 .ensures) in
-    at-code _ _ 11 _ (m .before .byte-at3 .ensures) (m .match .keys10)
-    (about-thread _ _ _ _ (c .by-thread3 .ensures) (λ t a. h t (a .thread))))
+    by-code 11 (c .before .before .before) _ _ (c .before .before .match .keys10)
+    (about-thread _ _ _ _ (c .by-thread3 .ensures) (c .before .exit3 .ensures)))
     (λ c.
-    let m = c .before .before in
-    let h = simp (
-      m .before .before .before .byte-at .ensures,
-      m .before .before .byte-at2 .ensures,
-    ) at (c .before .finish .ensures) in
-    at-code _ _ 12 _ (m .before .byte-at3 .ensures) (m .match .keys11)
-    (if-thread _ _ _ _ _ (c .early-thread .ensures) (λ t a o. h t (a .thread) o)))
+    by-code 12 (c .before .before .before) _ _ (c .before .before .match .keys11)
+    (if-thread _ _ _ _ _ (c .early-thread .ensures) (c .before .finish .ensures)))
     (λ c.
-    let m = c .before .before in
-    let h = simp (
-      m .before .before .before .byte-at .ensures,
-      m .before .before .byte-at2 .ensures,
-    ) at (c .before .check-policy .ensures) in
-    at-code _ _ 17 _ (m .before .byte-at3 .ensures) (m .match .keys12)
-    (about-process _ _ _ _ (c .by-process .ensures) (λ t a. h t (a .process) (a .fixed))))
+    by-code 17 (c .before .before .before) _ _ (c .before .before .match .keys12)
+    (about-process _ _ _ _ (c .by-process .ensures) (λ t a. c .before .check-policy .ensures t (a .process) (a .fixed))))
     (λ c.
-    let m = c .before in
-    let e = simp (
-      m .before .before .before .byte-at .ensures,
-      m .before .before .byte-at2 .ensures,
-    ) at (c .create-channel .ensures) in
-    at-code _ _ 18 _ (m .before .byte-at3 .ensures) (m .match .keys13) (e _ _ _))
+    by-code 18 (c .before .before) _ _ (c .before .match .keys13)
+    (c .create-channel .ensures _ _ _))
     (λ c.
-    let m = c .before in
-    let e = simp (
-      m .before .before .before .byte-at .ensures,
-      m .before .before .byte-at2 .ensures,
-    ) at (c .hang-up .ensures) in
-    at-code _ _ 19 _ (m .before .byte-at3 .ensures) (m .match .keys14) (e _ _ _))
+    by-code 19 (c .before .before) _ _ (c .before .match .keys14)
+    (c .hang-up .ensures _ _ _))
     (λ c.
-    let m = c .before .before .before in
-    let h = simp (
-      m .before .before .before .byte-at .ensures,
-      m .before .before .byte-at2 .ensures,
-      c .before .before .half-at .ensures,
-    ) at (c .before .handle-exception .ensures) in
-    at-code _ _ 20 _ (m .before .byte-at3 .ensures) (m .match .keys15)
-    (if-thread _ _ _ _ _ (c .early-thread2 .ensures) (λ t a o. h t (a .thread) o)))
+    let h = simp (c .before .before .half-at .ensures) at (c .before .handle-exception .ensures) in
+    by-code 20 (c .before .before .before .before) _ _ (c .before .before .before .match .keys15)
+    (if-thread _ _ _ _ _ (c .early-thread2 .ensures) h))
     (λ c.
-    let m = c .before .before in
-    let h = simp (
-      m .before .before .before .byte-at .ensures,
-      m .before .before .byte-at2 .ensures,
-    ) at (c .before .close .ensures) in
-    at-code _ _ 21 _ (m .before .byte-at3 .ensures) (m .match .keys16)
-    (if-thread _ _ _ _ _ (c .early-thread3 .ensures) (λ t a o. h t (a .thread) o)))
+    by-code 21 (c .before .before .before) _ _ (c .before .before .match .keys16)
+    (if-thread _ _ _ _ _ (c .early-thread3 .ensures) (c .before .close .ensures)))
     (λ c.
-    let m = c .before .before .before in
-    let h = simp (
-      m .before .before .before .byte-at .ensures,
-      m .before .before .byte-at2 .ensures,
-      c .before .before .word-at .ensures,
-    ) at (c .before .set-state .ensures) in
-    at-code _ _ 22 _ (m .before .byte-at3 .ensures) (m .match .keys17)
-    (about-thread _ _ _ _ (c .by-thread4 .ensures) (λ t a. h t (a .thread))))
+    let h = simp (c .before .before .word-at .ensures) at (c .before .set-state .ensures) in
+    by-code 22 (c .before .before .before .before) _ _ (c .before .before .before .match .keys17)
+    (about-thread _ _ _ _ (c .by-thread4 .ensures) h))
     (λ c.
-    let m = c .before .before .before in
-    let h = simp (
-      m .before .before .before .byte-at .ensures,
-      m .before .before .byte-at2 .ensures,
-      c .before .before .word-at2 .ensures,
-    ) at (c .before .set-strategy .ensures) in
-    at-code _ _ 23 _ (m .before .byte-at3 .ensures) (m .match .keys18)
-    (about-thread _ _ _ _ (c .by-thread5 .ensures) (λ t a. h t (a .thread))))
+    let h = simp (c .before .before .word-at2 .ensures) at (c .before .set-strategy .ensures) in
+    by-code 23 (c .before .before .before .before) _ _ (c .before .before .before .match .keys18)
+    (about-thread _ _ _ _ (c .by-thread5 .ensures) h))
     (λ c.
-    let m = c .before .before in
-    let h = simp (
-      m .before .before .before .byte-at .ensures,
-      m .before .before .byte-at2 .ensures,
-    ) at (c .before .get-process-handle .ensures) in
-    at-code _ _ 24 _ (m .before .byte-at3 .ensures) (m .match .keys19)
-    (about-thread _ _ _ _ (c .by-thread6 .ensures) (λ t a. h t (a .thread))))
+    by-code 24 (c .before .before .before) _ _ (c .before .before .match .keys19)
+    (about-thread _ _ _ _ (c .by-thread6 .ensures) (c .before .get-process-handle .ensures)))
     (λ c.
-    let m = c .before .before .before in
-    let h = simp (
-      m .before .before .before .byte-at .ensures,
-      m .before .before .byte-at2 .ensures,
-      c .before .before .half-at2 .ensures,
-    ) at (c .before .begin-wait .ensures) in
-    at-code _ _ 25 _ (m .before .byte-at3 .ensures) (m .match .keys20)
-    (about-thread _ _ _ _ (c .by-thread7 .ensures) (λ t a. h t (a .thread))))
+    let h = simp (c .before .before .half-at2 .ensures) at (c .before .begin-wait .ensures) in
+    by-code 25 (c .before .before .before .before) _ _ (c .before .before .before .match .keys20)
+    (about-thread _ _ _ _ (c .by-thread7 .ensures) h))
     (λ c.
-    let m = c .before .before in
-    let h = simp (
-      m .before .before .before .byte-at .ensures,
-      m .before .before .byte-at2 .ensures,
-    ) at (c .before .poll-wait .ensures) in
-    at-code _ _ 26 _ (m .before .byte-at3 .ensures) (m .match .keys21)
-    (about-thread _ _ _ _ (c .by-thread8 .ensures) (λ t a. h t (a .thread))))
+    by-code 26 (c .before .before .before) _ _ (c .before .before .match .keys21)
+    (about-thread _ _ _ _ (c .by-thread8 .ensures) (c .before .poll-wait .ensures)))
     (λ c.
-    let m = c .before .before in
-    let h = simp (
-      m .before .before .before .byte-at .ensures,
-      m .before .before .byte-at2 .ensures,
-    ) at (c .before .get-info .ensures) in
-    at-code _ _ 27 _ (m .before .byte-at3 .ensures) (m .match .keys22)
-    (about-job _ _ _ _ (c .by-job .ensures) (λ t a. h t (a .job) (a .own) (a .inherited))))
+    by-code 27 (c .before .before .before) _ _ (c .before .before .match .keys22)
+    (about-job _ _ _ _ (c .by-job .ensures) (λ t a. c .before .get-info .ensures t (a .job) (a .own) (a .inherited))))
     (λ c.
-    let m = c .before .before in
-    let h = simp (
-      m .before .before .before .byte-at .ensures,
-      m .before .before .byte-at2 .ensures,
-    ) at (c .before .get-info2 .ensures) in
-    at-code _ _ 28 _ (m .before .byte-at3 .ensures) (m .match .keys23)
-    (about-process _ _ _ _ (c .by-process2 .ensures) (λ t a. h t (a .process))))
+    by-code 28 (c .before .before .before) _ _ (c .before .before .match .keys23)
+    (about-process _ _ _ _ (c .by-process2 .ensures) (λ t a. c .before .get-info2 .ensures t (a .process))))
     (λ c.
-    let m = c .before .before in
-    let h = simp (
-      m .before .before .before .byte-at .ensures,
-      m .before .before .byte-at2 .ensures,
-    ) at (c .before .get-thread-info .ensures) in
-    at-code _ _ 29 _ (m .before .byte-at3 .ensures) (m .match .keys24)
-    (about-thread _ _ _ _ (c .by-thread9 .ensures) (λ t a. h t (a .thread))))
+    by-code 29 (c .before .before .before) _ _ (c .before .before .match .keys24)
+    (about-thread _ _ _ _ (c .by-thread9 .ensures) (c .before .get-thread-info .ensures)))
     (λ c.
-    let m = c .before in
-    let e = simp (
-      m .before .before .before .byte-at .ensures,
-      m .before .before .byte-at2 .ensures,
-    ) at (c .suspend .ensures) in
-    at-code _ _ 30 _ (m .before .byte-at3 .ensures) (m .match .keys25) (e _ _ _))
+    by-code 30 (c .before .before) _ _ (c .before .match .keys25)
+    (c .suspend .ensures _ _ _))
     (λ c.
-    let m = c .before in
-    let e = simp (
-      m .before .before .before .byte-at .ensures,
-      m .before .before .byte-at2 .ensures,
-    ) at (c .resume .ensures) in
-    at-code _ _ 31 _ (m .before .byte-at3 .ensures) (m .match .keys26) (e _ _ _))
+    by-code 31 (c .before .before) _ _ (c .before .match .keys26)
+    (c .resume .ensures _ _ _))
     (λ c. left-open _ _ _ (c .undecided .ensures)))

@@ -32,23 +32,17 @@ hang-up-spec =
     (λ c κs. search needs)
     (λ c κs. search needs)
     (λ c own inherited fixed.
-    let h = c .before .hang-up .ensures in
     rw (c .before .before .match .keys1)
-    (about-process _ _ _ _ (c .by-process .ensures) (λ t a. h t (a .process))))
+    (about-process _ _ _ _ (c .by-process .ensures) (λ t a. c .before .hang-up .ensures t (a .process))))
     (λ c own inherited fixed.
-    let h = c .before .hang-up2 .ensures in
-    rw (c .before .before .match .keys2)
-    (about-thread _ _ _ _ (c .by-thread .ensures) (λ t a. h t (a .thread))))
+    rw (c .before .before .match .keys2) (about-thread _ _ _ _ (c .by-thread .ensures) (c .before .hang-up2 .ensures)))
     (λ c own inherited fixed.
-    let h = c .before .hang-up3 .ensures in
     rw (c .before .before .match .keys3)
-    (about-process _ _ _ _ (c .by-process2 .ensures) (λ t a. h t (a .process))))
+    (about-process _ _ _ _ (c .by-process2 .ensures) (λ t a. c .before .hang-up3 .ensures t (a .process))))
     (λ c own inherited fixed.
-    let h = c .before .hang-up4 .ensures in
     rw (c .before .before .match .keys4)
-    (about-job _ _ _ _ (c .by-job .ensures) (λ t a. h t (a .job))))
+    (about-job _ _ _ _ (c .by-job .ensures) (λ t a. c .before .hang-up4 .ensures t (a .job))))
     (λ c own inherited fixed.
-    let h = c .before .hang-up5 .ensures in
     rw (c .before .before .match .keys5)
-    (about-job _ _ _ _ (c .by-job2 .ensures) (λ t a. h t (a .job))))
+    (about-job _ _ _ _ (c .by-job2 .ensures) (λ t a. c .before .hang-up5 .ensures t (a .job))))
     (λ c own inherited fixed. left-open _ _ _ (c .undecided .ensures)))
