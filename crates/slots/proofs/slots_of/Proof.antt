@@ -23,6 +23,13 @@ named-at bs k n p j c m a b x e = (
   rw x (omega arith, (omega arith, omega arith)),
 )
 
+-- the same, as the first three bytes were read
+by-code : (k n p j : ℕ) (c : tie.After-byte-at3) {x : Slots} → c .byte-at3 .result ≡ k →
+    x ≡ slotsOf n p j → slotsOf n p j ≡ slotsBy k (c .before .before .byte-at .result) (c .before .byte-at2 .result) →
+    (x ≡ slotsIn (c .before .before .before .before .args .s .now)) × Within x
+by-code k n p j c m =
+    named-at _ k n p j (c .byte-at3 .ensures) m (c .before .before .byte-at .ensures) (c .before .byte-at2 .ensures)
+
 -- a code that has one name, the first
 others : (n a b : ℕ) → (n ≡ 3 → ⊥) → (n ≡ 4 → ⊥) → (n ≡ 7 → ⊥) → (n ≡ 8 → ⊥) → (n ≡ 18 → ⊥) →
     (n ≡ 19 → ⊥) → (n ≡ 30 → ⊥) → (n ≡ 31 → ⊥) → slotsOf a a a ≡ slotsBy n a b
@@ -47,42 +54,17 @@ slots-of-spec =
     (λ c κs. search needs)
     (λ c κs. search needs)
     (λ c κs. search needs)
-    (λ c.
-    let m = c .before in
-    named-at _ 3 _ _ _ (m .before .byte-at3 .ensures) (m .match .keys1) (m .before .before .before .byte-at .ensures)
-    (m .before .before .byte-at2 .ensures) (c .wrapped .ensures) refl)
-    (λ c.
-    let m = c .before in
-    named-at _ 4 _ _ _ (m .before .byte-at3 .ensures) (m .match .keys2) (m .before .before .before .byte-at .ensures)
-    (m .before .before .byte-at2 .ensures) (c .wrapped2 .ensures) refl)
-    (λ c.
-    let m = c .before in
-    named-at _ 7 _ _ _ (m .before .byte-at3 .ensures) (m .match .keys3) (m .before .before .before .byte-at .ensures)
-    (m .before .before .byte-at2 .ensures) (c .wrapped3 .ensures) refl)
-    (λ c.
-    let m = c .before in
-    named-at _ 8 _ _ _ (m .before .byte-at3 .ensures) (m .match .keys4) (m .before .before .before .byte-at .ensures)
-    (m .before .before .byte-at2 .ensures) (c .wrapped4 .ensures) refl)
-    (λ c.
-    let m = c .before in
-    named-at _ 18 _ _ _ (m .before .byte-at3 .ensures) (m .match .keys5) (m .before .before .before .byte-at .ensures)
-    (m .before .before .byte-at2 .ensures) (c .wrapped5 .ensures) refl)
-    (λ c.
-    let m = c .before in
-    named-at _ 19 _ _ _ (m .before .byte-at3 .ensures) (m .match .keys6) (m .before .before .before .byte-at .ensures)
-    (m .before .before .byte-at2 .ensures) (c .wrapped6 .ensures) refl)
-    (λ c.
-    let m = c .before in
-    named-at _ 30 _ _ _ (m .before .byte-at3 .ensures) (m .match .keys7) (m .before .before .before .byte-at .ensures)
-    (m .before .before .byte-at2 .ensures) (c .wrapped7 .ensures) refl)
-    (λ c.
-    let m = c .before in
-    named-at _ 31 _ _ _ (m .before .byte-at3 .ensures) (m .match .keys8) (m .before .before .before .byte-at .ensures)
-    (m .before .before .byte-at2 .ensures) (c .wrapped8 .ensures) refl)
+    (λ c. by-code 3 _ _ _ (c .before .before) (c .before .match .keys1) (c .wrapped .ensures) refl)
+    (λ c. by-code 4 _ _ _ (c .before .before) (c .before .match .keys2) (c .wrapped2 .ensures) refl)
+    (λ c. by-code 7 _ _ _ (c .before .before) (c .before .match .keys3) (c .wrapped3 .ensures) refl)
+    (λ c. by-code 8 _ _ _ (c .before .before) (c .before .match .keys4) (c .wrapped4 .ensures) refl)
+    (λ c. by-code 18 _ _ _ (c .before .before) (c .before .match .keys5) (c .wrapped5 .ensures) refl)
+    (λ c. by-code 19 _ _ _ (c .before .before) (c .before .match .keys6) (c .wrapped6 .ensures) refl)
+    (λ c. by-code 30 _ _ _ (c .before .before) (c .before .match .keys7) (c .wrapped7 .ensures) refl)
+    (λ c. by-code 31 _ _ _ (c .before .before) (c .before .match .keys8) (c .wrapped8 .ensures) refl)
     (λ c.
     let m = c .before in
     let r = m .match .rest in
     let e = others _ _ _ (r .0 .0 .0 .0 .0 .0 .0 .1) (r .0 .0 .0 .0 .0 .0 .1) (r .0 .0 .0 .0 .0 .1) (r .0 .0 .0 .0 .1)
     (r .0 .0 .0 .1) (r .0 .0 .1) (r .0 .1) (r .1) in
-    named-at _ _ _ _ _ (m .before .byte-at3 .ensures) refl (m .before .before .before .byte-at .ensures)
-    (m .before .before .byte-at2 .ensures) (c .wrapped9 .ensures) e))
+    by-code _ _ _ _ (m .before) refl (c .wrapped9 .ensures) e))
