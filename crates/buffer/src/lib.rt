@@ -1,5 +1,5 @@
-// buffer: the recorder called on the bytes at the front of a buffer. Its lines are at the front of another buffer, and the
-// bytes that it did not use are kept, none lost and none changed.
+// buffer: the recorder called on the bytes at the front of a buffer. Its lines are at the front of another buffer,
+// and the bytes that it did not use are kept, none lost and none changed.
 ghost use Prim.Native.Nat.{_-_, _≤_, min};
 ghost use mathlib.Core.Path.{_≡_};
 ghost use lib.ListN.{length, take, drop};
@@ -8,8 +8,8 @@ ghost use Rattle.feeding.specs.Recorder.{fed};
 ghost use Rattle.buffer.specs.Buffer.{Advances};
 use stream_state::State;
 
-// Where a stream stands: `have` bytes are at the front of the buffer and not yet used, and the last call of the recorder
-// left `written` bytes of lines.
+// Where a stream stands: `have` bytes are at the front of the buffer and not yet used, and the last call of the
+// recorder left `written` bytes of lines.
 pub struct Progress {
     pub state: State,
     pub have: usize,
@@ -37,9 +37,10 @@ fn shift(buf: &mut [u8], have: usize, n: usize)
     }
 }
 
-// Calls the recorder on what is there. Its lines are at the front of `out`, and what it did not use at the front of `buf`.
+// Calls the recorder on what is there: its lines are at the front of `out`, what it did not use at that of `buf`.
 pub fn advance(progress: Progress, buf: &mut [u8], out: &mut [u8]) -> Progress
-    ensures { λ r. ⌜ Advances (fed (length (now (out .entry))) (progress .state) (take (progress .have) (now (buf .entry))))
+    ensures { λ r. ⌜ Advances
+        (fed (length (now (out .entry))) (progress .state) (take (progress .have) (now (buf .entry))))
         (min (progress .have) (length (now (buf .entry)))) (now (buf .entry)) r (now (buf .exit)) (now (out .exit)) ⌝ }
     ensures { λ r. ⌜ Counts (r .written) (now (out .exit)) ⌝ }
     ensures { λ r. ⌜ r .have ≤ length (now (buf .exit)) ⌝ }

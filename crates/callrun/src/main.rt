@@ -1,6 +1,6 @@
-// callrun: reads commands from standard input to its end and writes a line for each. What is written for which bytes is
-// `recorder`'s; here the bytes are moved, none lost and none changed. A read or a write that fails ends the program with a
-// message.
+// callrun: reads commands from standard input to its end and writes a line for each. What is written for which bytes
+// is `recorder`'s; here the bytes are moved, none lost and none changed. A read or a write that fails ends the
+// program with a message.
 ghost use Prim.Native.Nat.{_≤_};
 ghost use mathlib.Core.Path.{_≡_};
 ghost use lib.ListN.{length, take};

@@ -14,7 +14,8 @@ use reply::Reply;
 
 // 10, with its amount and mode.
 fn set_slack(t: Tables, s: &[u8]) -> Reply
-    ensures { λ r. ⌜ r ≡ step t (cmd10 (byte (now (s .entry)) 1) (signed64 (long (now (s .entry)) 2)) (byte (now (s .entry)) 10)) ⌝ }
+    ensures { λ r. ⌜ r ≡ step t (cmd10 (byte (now (s .entry)) 1)
+        (signed64 (long (now (s .entry)) 2)) (byte (now (s .entry)) 10)) ⌝ }
 {
     let policy = TimerSlackPolicy {
         slack: value_at(s),

@@ -1,5 +1,5 @@
-// changing: what a command changes, where that is at most one record of each table: the records to store, and its answer.
-// A command that may change more is left open.
+// changing: what a command changes, where that is at most one record of each table: the records to store, and its
+// answer. A command that may change more is left open.
 ghost use mathlib.Core.Path.{_≡_};
 ghost use Rattle.commands.specs.Commands.{byte, long, signed64};
 ghost use Rattle.model.specs.Step.{step, cmd10};
@@ -16,7 +16,8 @@ use records::tables::Tables;
 
 // 10, with its amount and mode.
 fn set_slack(t: Tables, s: &[u8]) -> Change
-    ensures { λ r. ⌜ Comes t (step t (cmd10 (byte (now (s .entry)) 1) (signed64 (long (now (s .entry)) 2)) (byte (now (s .entry)) 10))) r ⌝ }
+    ensures { λ r. ⌜ Comes t (step t (cmd10 (byte (now (s .entry)) 1)
+        (signed64 (long (now (s .entry)) 2)) (byte (now (s .entry)) 10))) r ⌝ }
 {
     let policy = TimerSlackPolicy {
         slack: value_at(s),

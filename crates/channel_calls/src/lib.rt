@@ -1,5 +1,5 @@
-// channel_calls: a handler bound to a level, and its hanging up. Follows `Exceptionate` of exception.rs. Each call answers
-// document 01's refusals in its order, and else what its definition in model/specs/ExceptionCalls.antt comes to.
+// channel_calls: a handler bound to a level, and its hanging up. Follows `Exceptionate` of exception.rs. Each call
+// answers document 01's refusals in its order, and else what model/specs/ExceptionCalls.antt says of it.
 ghost use mathlib.Core.Path.{_≡_};
 ghost use Rattle.model.specs.ExceptionCalls.{badLevel, bindLevel, hangUpLevel};
 use error::Refusal;

@@ -83,7 +83,12 @@ pub refused-stays : {d : Decided} (t : Tables) (s : Slots) {x : Named} (c : ℤ)
     d ≡ refused (x .thread) (x .process) (x .job) c → Holds t s x → storedAt t s d ≡ answered t c
 unfolding storedAt answered
 refused-stays t s c e a =
-    rw (e, thread-laws.kept t (s .thread) (a .thread), process-laws.kept t (s .process) (a .process), job-laws.kept t (s .job) (a .job))
+    rw (
+      e,
+      thread-laws.kept t (s .thread) (a .thread),
+      process-laws.kept t (s .process) (a .process),
+      job-laws.kept t (s .job) (a .job),
+    )
 
 either : (a : Bool) {b : Bool} → b ≡ true → (a or b) ≡ true
 unfolding _or_

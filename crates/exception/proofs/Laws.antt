@@ -55,12 +55,14 @@ module _ (k m : ℕ) (s : suc k ≡ m) (place : ℕ → Place) (t : Tables) (n j
     unfolding next onParent
     up-orphan o =
         let a : jobAt u j .parent ≡ Orphan = ap (λ (w : Job). w .parent) (sym r) ∙ o in
-        passed-over t n p next e f h g (sym (ap (λ (w : Parent). onParent w (noHandler u) λ i. searchUp k place u n i) a))
+        passed-over t n p next e f h g
+        (sym (ap (λ (w : Parent). onParent w (noHandler u) λ i. searchUp k place u n i) a))
         ∙ ap (λ (q : Place). tryAt t n q next) d ∙ steps
 
     pub up-goes : {i : ℕ} → v .parent ≡ ChildOf i → searchUp k place u n i ≡ searchUp m place t n j
     unfolding next onParent
     up-goes {i} o =
         let a : jobAt u j .parent ≡ ChildOf i = ap (λ (w : Job). w .parent) (sym r) ∙ o in
-        passed-over t n p next e f h g (sym (ap (λ (w : Parent). onParent w (noHandler u) λ i. searchUp k place u n i) a))
+        passed-over t n p next e f h g
+        (sym (ap (λ (w : Parent). onParent w (noHandler u) λ i. searchUp k place u n i) a))
         ∙ ap (λ (q : Place). tryAt t n q next) d ∙ steps

@@ -33,7 +33,8 @@ use Rattle.feeding.specs.Recorder.{Part, part, ahead, fed, fedStep, Feed
 use Rattle.feeding.proofs.Parts.{fed-is}
 
 -- a line by other names for its number, its answer and its policy
-pub as-lined : {before now : List ℕ} {at r : ℕ} {n m : ℕ} {a b : ℤ} (f : Fields) {p q : JobPolicy} → n ≡ m → a ≡ b → p ≡ q →
+pub as-lined : {before now : List ℕ} {at r : ℕ} {n m : ℕ} {a b : ℤ} (f : Fields) {p q : JobPolicy} → n ≡ m → a ≡ b →
+    p ≡ q →
     Put before now at r (lineOf n a f p) → Put before now at r (lineOf m b f q)
 as-lined f d e g h = simp (d, e, g) at h
 

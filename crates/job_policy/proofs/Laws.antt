@@ -64,7 +64,8 @@ found-entry p c a e = go (decLt c 15) (ℕ-discrete (getD (p .action) c 0) 0)
         let z : _≡_ {A = ℕ} 0 1 = cc in
         absurd (omega arith)
     go (yes h) (no k) =
-        let u : Action (getD (p .action) c 0 - 1) ≡ getAction p c = second _ _ (lt-leb _ _ h) (second _ _ (ne-eqb _ _ k) refl) in
+        let u : Action (getD (p .action) c 0 - 1) ≡ getAction p c =
+        second _ _ (lt-leb _ _ h) (second _ _ (ne-eqb _ _ k) refl) in
         let z : getD (p .action) c 0 - 1 ≡ a = cc in
         (h, omega arith)
     go (no h) _ =
@@ -99,7 +100,8 @@ parent-wins own parent c e f =
     let p = found-entry parent c DENY f in
     let k : getD (parent .action) c 0 ≢ 0 = λ z. omega (arith, p .1) in
     entry-found (merge own parent) c DENY (p .0)
-    (zip-at mergedAction (own .action) (parent .action) c 0 0 (in-list (own .action) c ALLOW (o .1)) (in-list (parent .action) c DENY (p .1))
+    (zip-at mergedAction (own .action) (parent .action) c 0 0 (in-list (own .action) c ALLOW (o .1))
+    (in-list (parent .action) c DENY (p .1))
     ∙ sym (second _ _ (ne-eqb _ _ k) (sym (p .1))))
 
 pub cases : Cases

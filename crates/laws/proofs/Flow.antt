@@ -1,7 +1,7 @@
 -- How a `return` of the code meets its definition: `search flow` closes it.
 --     stops, passes, finds, fails, accepts    a call's guards, along the way that the code took
 --     yes, no, first, second                  a choice between two ways, `ite` and `if`
---     told                                    a test that a callee answered: r is what it said, b what the definition asks
+--     told                                    a test that a callee answered: r is what it said, b what is asked
 -- Assumes nothing.
 use mathlib.Core.Path.{_≡_, refl, sym, _∙_, ap}
 use mathlib.Core.Bool.{Bool, true, false, not}

@@ -83,7 +83,8 @@ module _ {A B : Type 0} (f : A → B → A) where
   zipTo-at (x ∷ l) [] (suc i) d = refl
   zipTo-at (x ∷ l) (y ∷ m) (suc i) d = zipTo-at l m i d
 
-  zipTo-suc : (l : List A) (m : List B) (i : ℕ) (d : A) (e : B) → i < length m → set (zipTo f i l m) i (f (getD l i d) (getD m i e)) ≡ zipTo f (suc i) l m
+  zipTo-suc : (l : List A) (m : List B) (i : ℕ) (d : A) (e : B) → i < length m →
+      set (zipTo f i l m) i (f (getD l i d) (getD m i e)) ≡ zipTo f (suc i) l m
   zipTo-suc [] m zero d e h = refl
   zipTo-suc (x ∷ l) [] zero d e h = absurd (omega arith)
   zipTo-suc (x ∷ l) (y ∷ m) zero d e h = refl

@@ -1,5 +1,5 @@
--- A record that was read at the place of a name, where the name is its own place: what is said of it is said of what the
--- table has under the name. For a table of any records: jobs, processes. Assumes nothing.
+-- A record that was read at the place of a name, where the name is its own place: what is said of it is said of what
+-- the table has under the name. For a table of any records: jobs, processes. Assumes nothing.
 use Prim.Native.Nat.{ℕ}
 use mathlib.Core.Path.{_≡_, ap, sym, _∙_}
 

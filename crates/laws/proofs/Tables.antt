@@ -10,7 +10,8 @@ use lib.Seq.{getD-set-same, getD-set-other, set-out}
 
 -- a table: what is read after a write is what was written, or what was there
 module _ {A : Type 0} (d : A) where
-  pub tab-set : (Q : A → Type 0) (l : List A) (i k : ℕ) (v : A) → (k ≡ i → Q v) → Q (getD l k d) → Q (getD (set l i v) k d)
+  pub tab-set : (Q : A → Type 0) (l : List A) (i k : ℕ) (v : A) → (k ≡ i → Q v) → Q (getD l k d) →
+      Q (getD (set l i v) k d)
   tab-set Q l i k v new old = go (ℕ-discrete k i) (decLt i (length l))
     where
       go : Dec (k ≡ i) → Dec (i < length l) → Q (getD (set l i v) k d)
@@ -18,8 +19,10 @@ module _ {A : Type 0} (d : A) where
       go (yes e) (no h) = subst (λ (m : List A). Q (getD m k d)) (sym (set-out l i v (omega arith))) old
       go (no n) _ = subst Q (sym (getD-set-other l i k v d n)) old
 
-  pub tab-keep : {B : Type 0} (f : A → B) (l : List A) (i : ℕ) (v : A) → f v ≡ f (getD l i d) → (k : ℕ) → f (getD (set l i v) k d) ≡ f (getD l k d)
-  tab-keep f l i v e k = tab-set (λ x. f x ≡ f (getD l k d)) l i k v (λ h. e ∙ ap (λ (n : ℕ). f (getD l n d)) (sym h)) refl
+  pub tab-keep : {B : Type 0} (f : A → B) (l : List A) (i : ℕ) (v : A) → f v ≡ f (getD l i d) → (k : ℕ) →
+      f (getD (set l i v) k d) ≡ f (getD l k d)
+  tab-keep f l i v e k = tab-set (λ x. f x ≡ f (getD l k d)) l i k v
+      (λ h. e ∙ ap (λ (n : ℕ). f (getD l n d)) (sym h)) refl
 
   -- two tables of one length, written at one place
   pub tab-set₂ : (Q : A → A → Type 0) (l m : List A) (i k : ℕ) (v w : A) → length l ≡ length m
@@ -28,7 +31,8 @@ module _ {A : Type 0} (d : A) where
     where
       go : Dec (k ≡ i) → Dec (i < length l) → Q (getD (set l i v) k d) (getD (set m i w) k d)
       go (yes e) (yes h) =
-          subst (λ x. Q x (getD (set m i w) k d)) (sym (ap (λ (n : ℕ). getD (set l i v) n d) e ∙ getD-set-same l i v d h))
+          subst (λ x. Q x (getD (set m i w) k d))
+          (sym (ap (λ (n : ℕ). getD (set l i v) n d) e ∙ getD-set-same l i v d h))
           (subst (Q v) (sym (ap (λ (n : ℕ). getD (set m i w) n d) e ∙ getD-set-same m i w d (omega arith))) (new e))
       go (yes e) (no h) =
           subst (λ x. Q (getD x k d) (getD (set m i w) k d)) (sym (set-out l i v (omega arith)))

@@ -1,4 +1,4 @@
-// lines: a reply as a line of text in a lent buffer. No line is longer than 128 bytes, and none is begun with less room.
+// lines: a reply as a line of text in a lent buffer. No line has more than 128 bytes; none is begun with less room.
 ghost use Prim.Native.Nat.{_+_, _-_, _≤_};
 ghost use lib.ListN.{length};
 ghost use Rattle.lines.specs.Line.{field, flagText, decimalText, signedText, policyText};

@@ -69,7 +69,8 @@ pub no-job : {x : Reply} (t : Tables) {g : FoundJob} (h : FoundJob) (k : Job →
 unfolding oldJob
 no-job t h k p q r = let e : oldJob h ≡ missing (pos 103) = rw (← p, q) in lacks t k e r
 
-pub the-process : {x : Reply} (t : Tables) {g : FoundProcess} (h : FoundProcess) {v : Process} (k : Process → Guarded Reply) →
+pub the-process : {x : Reply} (t : Tables) {g : FoundProcess} (h : FoundProcess) {v : Process}
+    (k : Process → Guarded Reply) →
     g ≡ h → g ≡ OldProcess v → x ≡ call t (k v) → x ≡ call t (oldProcess h >>= k)
 unfolding oldProcess
 the-process t h {v} k p q r = let e : oldProcess h ≡ found v = rw (← p, q) in gives t k e r
@@ -79,7 +80,8 @@ pub no-process : {x : Reply} (t : Tables) {g : FoundProcess} (h : FoundProcess) 
 unfolding oldProcess
 no-process t h k p q r = let e : oldProcess h ≡ missing (pos 103) = rw (← p, q) in lacks t k e r
 
-pub the-thread : {x : Reply} (t : Tables) {g : FoundThread} (h : FoundThread) {v : Thread} (k : Thread → Guarded Reply) →
+pub the-thread : {x : Reply} (t : Tables) {g : FoundThread} (h : FoundThread) {v : Thread}
+    (k : Thread → Guarded Reply) →
     g ≡ h → g ≡ OldThread v → x ≡ call t (k v) → x ≡ call t (oldThread h >>= k)
 unfolding oldThread
 the-thread t h {v} k p q r = let e : oldThread h ≡ found v = rw (← p, q) in gives t k e r
@@ -151,4 +153,28 @@ past-told {a} {b} {n} p h = let k : b ≤ n = omega arith in le-leb b n k
 pub within-told : {a b n : ℕ} → a ≡ b → n < a → leb b n ≡ false
 within-told {a} {b} {n} p h = let k : n < b = omega arith in lt-leb b n k
 
-pub ruleset answering = (flow, refuses, accepts, the-job, no-job, the-process, no-process, the-thread, no-thread, the-token, no-token, the-exception, no-exception, the-level, no-level, the-task, no-task, job-made, process-made, thread-made, token-made, past-told, within-told)
+pub ruleset answering = (
+  flow,
+  refuses,
+  accepts,
+  the-job,
+  no-job,
+  the-process,
+  no-process,
+  the-thread,
+  no-thread,
+  the-token,
+  no-token,
+  the-exception,
+  no-exception,
+  the-level,
+  no-level,
+  the-task,
+  no-task,
+  job-made,
+  process-made,
+  thread-made,
+  token-made,
+  past-told,
+  within-told,
+)

@@ -1,4 +1,4 @@
--- How a `return` of a function meets a call's definition where the records decide the call: `search deciding` closes it.
+-- How a `return` meets a call's definition where the records decide the call: `search deciding` closes it.
 --     settles, stays-open      a decided call, and one that is not
 --     exited-stays             nothing changes on an Exited process
 --     kills                    killing is exiting with the code of a killed process

@@ -46,7 +46,8 @@ pub ruleset settling = (moving, early-stays)
 pub dying-stops : {x : Reply} (t : Tables) (n kind : ℕ) {v : Thread} → n < 128 → threadAt t (slot n) ≡ v →
     eqb kind 0x8108 ≡ false → eqb (v .state) 4 ≡ true → x ≡ reply t STOP (OwnerField 0) → x ≡ raise t n kind
 unfolding raise
-dying-stops t n kind l h k d p = second _ _ k (first _ _ (ap (λ (w : Thread). eqb (w .state) 4) (read-at t n l h) ∙ d) p)
+dying-stops t n kind l h k d p =
+    second _ _ k (first _ _ (ap (λ (w : Thread). eqb (w .state) 4) (read-at t n l h) ∙ d) p)
 
 pub closing-ends : {x : Reply} (t : Tables) (n : ℕ) (e : Exception) {v : Thread} → n < 128 → threadAt t (slot n) ≡ v →
     isOver e ≡ true → x ≡ reply (putThread t n (endWait v)) (pos 0) (OwnerField 0) → x ≡ close t n e

@@ -32,7 +32,8 @@ resumeOne t n = call t do
 
 module _ (t : Tables) (n : ℕ) where
   suspends-at : (b : Bool) → threadAt t n .made ≡ b → suspendOne t n ≡ suspendCall t 2 n
-  unfolding suspendOne suspendCall settle foundThread tasksOf foundTask madeThread oldThread oldTask someAt suspendTask changeTask if_then_else_
+  unfolding suspendOne suspendCall settle foundThread tasksOf foundTask madeThread oldThread oldTask someAt
+      suspendTask changeTask if_then_else_
   suspends-at false e = under t (pos 101) (128 ≤? n) _ _ (rw e)
   suspends-at true e = under t (pos 101) (128 ≤? n) _ _ (rw e)
 
@@ -40,7 +41,8 @@ module _ (t : Tables) (n : ℕ) where
   suspend-is = suspends-at (threadAt t n .made) refl
 
   resumes-at : (b : Bool) → threadAt t n .made ≡ b → resumeOne t n ≡ resumeCall t 2 n
-  unfolding resumeOne resumeCall settle foundThread tasksOf foundTask madeThread oldThread oldTask someAt resumeTask changeTask if_then_else_
+  unfolding resumeOne resumeCall settle foundThread tasksOf foundTask madeThread oldThread oldTask someAt
+      resumeTask changeTask if_then_else_
   resumes-at false e = under t (pos 101) (128 ≤? n) _ _ (rw e)
   resumes-at true e = under t (pos 101) (128 ≤? n) _ _ (rw e)
 

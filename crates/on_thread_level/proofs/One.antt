@@ -35,7 +35,8 @@ hangUpOne t n = call t do
 
 module _ (t : Tables) (n : ℕ) where
   binds-at : (b : Bool) → threadAt t n .made ≡ b → bindOne t n ≡ bindLevel t 2 n
-  unfolding bindOne bindLevel settle foundThread ownersOf foundLevel levelOfThread oldThread oldLevel putLevel _or_ if_then_else_
+  unfolding bindOne bindLevel settle foundThread ownersOf foundLevel levelOfThread oldThread oldLevel putLevel _or_
+      if_then_else_
   binds-at false e = under t (pos 101) (128 ≤? n) _ _ (rw e)
   binds-at true e = under t (pos 101) (128 ≤? n) _ _ (rw e)
 
@@ -43,7 +44,8 @@ module _ (t : Tables) (n : ℕ) where
   bind-is = binds-at (threadAt t n .made) refl
 
   hangs-up-at : (b : Bool) → threadAt t n .made ≡ b → hangUpOne t n ≡ hangUpLevel t 2 n
-  unfolding hangUpOne hangUpLevel settle foundThread ownersOf foundLevel levelOfThread oldThread oldLevel putLevel _or_ if_then_else_
+  unfolding hangUpOne hangUpLevel settle foundThread ownersOf foundLevel levelOfThread oldThread oldLevel putLevel
+      _or_ if_then_else_
   hangs-up-at false e = under t (pos 101) (128 ≤? n) _ _ (rw e)
   hangs-up-at true e = under t (pos 101) (128 ≤? n) _ _ (rw e)
 

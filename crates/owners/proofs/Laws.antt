@@ -20,7 +20,8 @@ pub no-thread : {g : FoundThread} (h : FoundThread) → g ≡ h → g ≡ NoThre
 unfolding levelOfThread
 no-thread h p q = rw (← p, q)
 
-pub the-thread : {g : FoundThread} {v : Thread} (h : FoundThread) → g ≡ h → g ≡ OldThread v → OldLevel (v .level2) ≡ levelOfThread h
+pub the-thread : {g : FoundThread} {v : Thread} (h : FoundThread) → g ≡ h → g ≡ OldThread v →
+    OldLevel (v .level2) ≡ levelOfThread h
 unfolding levelOfThread
 the-thread h p q = rw (← p, q)
 
@@ -56,7 +57,8 @@ pub no-process-task : {g : FoundProcess} (h : FoundProcess) → g ≡ h → g �
 unfolding madeProcess
 no-process-task h p q = rw (← p, q)
 
-pub process-task : {g : FoundProcess} {v : Process} (h : FoundProcess) → g ≡ h → g ≡ OldProcess v → OldTask ≡ madeProcess h
+pub process-task : {g : FoundProcess} {v : Process} (h : FoundProcess) → g ≡ h → g ≡ OldProcess v →
+    OldTask ≡ madeProcess h
 unfolding madeProcess
 process-task h p q = rw (← p, q)
 

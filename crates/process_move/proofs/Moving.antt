@@ -1,4 +1,4 @@
--- How a `return` of a function over one process's record meets a call's definition, for the crates that have such calls.
+-- How a `return` over one process's record meets a call's definition, for the crates that have such calls.
 --     same                     a name in the table is its own place
 --     kept, stays, stores      the process stays, or is stored where it was
 --     looked-up                the record as the tables have it

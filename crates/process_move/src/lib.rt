@@ -1,5 +1,5 @@
-// process_move: what a call on one process comes to over the records that it names alone, a move, and the reply that the
-// move stands for. specs/ProcessMove.antt says when a move is what the call comes to.
+// process_move: what a call on one process comes to over the records that it names alone, a move, and the reply that
+// the move stands for. specs/ProcessMove.antt says when a move is what the call comes to.
 ghost use mathlib.Core.Path.{_≡_};
 ghost use Rattle.process_move.specs.ProcessMove.{move, foundIn, moved};
 use record_process::Process;

@@ -1,6 +1,6 @@
-// process_state_calls: starting, binding and showing a process, and the policy fixed for it: the calls on a process that end
-// nothing. Follows process.rs. Each answers document 01's refusals in its order, and else what its definition in
-// model/specs/JobCalls.antt comes to.
+// process_state_calls: starting, binding and showing a process, and the policy fixed for it: the calls on a process
+// that end nothing. Follows process.rs. Each answers document 01's refusals in its order, and else what its
+// definition in model/specs/JobCalls.antt comes to.
 ghost use mathlib.Core.Path.{_≡_};
 ghost use Rattle.model.specs.JobCalls.{startProcess, setCriticalAtJob, checkPolicy};
 ghost use Rattle.model.specs.JobCalls.{processInformation};

@@ -1,4 +1,4 @@
-// record_process: the record of a process. The policy fixed at its making stands in a table of its own, beside the processes.
+// record_process: the record of a process. The policy fixed at its making stands in a table beside the processes.
 ghost use mathlib.Core.Path.{_≡_};
 ghost use Rattle.record_process.specs.Process.{noProcess, newProcess, codeOf, withStatus};
 ghost use Rattle.record_process.specs.Process.{ended, bindTo, withLevel1, withLevel3};

@@ -1,4 +1,4 @@
-// tables.rt: the records of all names. Policies stand beside their jobs and processes, since no lookup can hold an array.
+// tables.rt: the records of all names. Policies stand beside jobs and processes, since no lookup can hold an array.
 ghost use mathlib.Core.Path.{_≡_};
 ghost use Rattle.records.specs.Tables.{putJob, putOwn, putInherited, putProcess};
 ghost use Rattle.records.specs.Tables.{putFixed, putThread, putToken};

@@ -1,5 +1,5 @@
-// replay: holds the library to the lists in data/ and the lines that the Rust wrote for them. Writes a line for each pack,
-// and ends at the first list that differs.
+// replay: holds the library to the lists in data/ and the lines that the Rust wrote for them. Writes a line for each
+// pack, and ends at the first list that differs.
 mod list;
 mod pack;
 

@@ -1,5 +1,5 @@
-// pack: a file of lists. An entry is the length of the calls in 4 little-endian bytes, the calls, the length of the lines
-// in 4 bytes, the lines.
+// pack: a file of lists. An entry is the length of the calls in 4 little-endian bytes, the calls, the length of the
+// lines in 4 bytes, the lines.
 ghost use Prim.Native.Nat.{_+_, _-_, _≤_};
 ghost use mathlib.Core.Path.{_≡_};
 ghost use lib.ListN.{length, take};

@@ -1,5 +1,5 @@
--- Where the records are that a command names. Most commands have the name first, some have two names, and some have a kind
--- or a level before it.
+-- Where the records are that a command names. Most commands have the name first, some have two names, and some have a
+-- kind or a level before it.
 use Prim.Native.Nat.{ℕ, _%_}
 use mathlib.Core.List.{List}
 use Rattle.laws.specs.Choice.{_=?_, if_then_else_}

@@ -1,4 +1,4 @@
-// slots: where the records are that a command names: a thread, a process and a job. Each name is wrapped into its table.
+// slots: where the records are that a command names, a thread, a process and a job: a name wrapped into its table.
 ghost use mathlib.Core.Path.{_≡_};
 ghost use Prim.Native.Nat.{_<_};
 ghost use Rattle.slots.specs.Slots.{slotsOf, slotsIn};

@@ -1,5 +1,5 @@
--- A whole stream of commands and what is written for it: `transcript freshState bs` is all that the program writes for the
--- input bs, however it is cut into parts (document 01, Commands of the recorder).
+-- A whole stream of commands and what is written for it: `transcript freshState bs` is all that the program writes
+-- for the input bs, however it is cut into parts (document 01, Commands of the recorder).
 use Prim.Native.Nat.{ℕ, zero, suc}
 use mathlib.Core.Path.{_≡_}
 use mathlib.Core.Bool.{false}

@@ -1,5 +1,5 @@
--- Where a stream of commands stands, and what is written at its end. Lines are numbered from 1. A command that the end of
--- the input cuts writes the number and `stop` (document 01, Commands of the recorder).
+-- Where a stream of commands stands, and what is written at its end. Lines are numbered from 1. A command that the
+-- end of the input cuts writes the number and `stop` (document 01, Commands of the recorder).
 use Prim.Native.Nat.{ℕ, _+_}
 use mathlib.Core.List.{List, []}
 use lib.ListN.{length}

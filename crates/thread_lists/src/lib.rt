@@ -1,5 +1,5 @@
-// thread_lists: the threads that a process lists, over the table of threads by itself: whether there is one, and a change
-// of each.
+// thread_lists: the threads that a process lists, over the table of threads by itself: whether there is one, and a
+// change of each.
 ghost use mathlib.Core.List.{map};
 ghost use mathlib.Core.Path.{_≡_};
 ghost use Rattle.laws.specs.Lists.{any};

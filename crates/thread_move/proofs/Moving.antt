@@ -54,7 +54,8 @@ pub looked-up : {g : FoundThread} (t : Tables) (n : ℕ) {v : Thread} →
 unfolding foundIn foundThread
 looked-up t n e h p = e ∙ rw (← p, same n h)
 
-pub under : (t : Tables) (c : ℤ) (b : Bool) (k l : Guarded Reply) → call t k ≡ call t l → call t (guard c b >> k) ≡ call t (guard c b >> l)
+pub under : (t : Tables) (c : ℤ) (b : Bool) (k l : Guarded Reply) → call t k ≡ call t l →
+    call t (guard c b >> k) ≡ call t (guard c b >> l)
 unfolding settle
 under t c true k l e = refl
 under t c false k l e = e

@@ -35,7 +35,8 @@ no-other : (n a b c : ℕ) (bs : List ℕ) → (n ≡ 1 → ⊥) → (n ≡ 2 �
     (n ≡ 24 → ⊥) → (n ≡ 25 → ⊥) → (n ≡ 26 → ⊥) → (n ≡ 27 → ⊥) → (n ≡ 28 → ⊥) → (n ≡ 29 → ⊥) →
     (n ≡ 30 → ⊥) → callBy n a b c bs ≡ cmd1f a b
 unfolding callBy if_then_else_
-no-other n a b c bs h1 h2 h3 h4 h5 h6 h7 h8 h9 h10 h11 h12 h13 h14 h15 h16 h17 h18 h19 h20 h21 h22 h23 h24 h25 h26 h27 h28 h29 h30 =
+no-other n a b c bs h1 h2 h3 h4 h5 h6 h7 h8 h9 h10 h11 h12 h13 h14 h15 h16 h17 h18 h19 h20 h21 h22 h23 h24 h25 h26 h27
+    h28 h29 h30 =
     rw (
       ne-eqb n 1 h1,
       ne-eqb n 2 h2,

@@ -91,7 +91,8 @@ decide-spec =
     (if-job _ _ _ _ _ (c .early-job .ensures) (λ t a o. c .before .kill .ensures t (a .job) o)))
     (λ c.
     by-code 3 (c .before .before .before) _ _ (c .before .before .match .keys2)
-    (if-process _ _ _ _ _ (c .early-process .ensures) (λ t a o. c .before .create-with-ext .ensures t (a .process) (a .job) o)))
+    (if-process _ _ _ _ _ (c .early-process .ensures)
+    (λ t a o. c .before .create-with-ext .ensures t (a .process) (a .job) o)))
     (λ c.
     by-code 4 (c .before .before .before) _ _ (c .before .before .match .keys3)
     (about-both _ _ _ _ (c .by-both .ensures) (λ t a. c .before .start .ensures t (a .process) (a .thread))))
@@ -122,7 +123,8 @@ decide-spec =
     (if-thread _ _ _ _ _ (c .early-thread .ensures) (c .before .finish .ensures)))
     (λ c.
     by-code 17 (c .before .before .before) _ _ (c .before .before .match .keys12)
-    (about-process _ _ _ _ (c .by-process .ensures) (λ t a. c .before .check-policy .ensures t (a .process) (a .fixed))))
+    (about-process _ _ _ _ (c .by-process .ensures)
+    (λ t a. c .before .check-policy .ensures t (a .process) (a .fixed))))
     (λ c.
     by-code 18 (c .before .before) _ _ (c .before .match .keys13)
     (c .create-channel .ensures _ _ _))

@@ -18,4 +18,5 @@ only-debugger-spec =
     (λ c κs. search needs)
     (λ c.
     let b = c .before .before in
-    passed-over _ _ _ _ (b .before .level-at .ensures) (b .is-bound .ensures) (c .before .if1 .left) (c .pass-over .ensures) refl))
+    passed-over _ _ _ _ (b .before .level-at .ensures) (b .is-bound .ensures) (c .before .if1 .left)
+    (c .pass-over .ensures) refl))

@@ -15,4 +15,5 @@ outcome-spec =
     (λ c κs. search needs)
     (λ c.
     let a = c .before .args in
-    c .with-fields .ensures ∙ ap (λ (z : ℤ). reply (a .t) z (OwnerField 0)) (toZ-ofZ {w = w64} (c .before .fits .answer))))
+    c .with-fields .ensures ∙ ap (λ (z : ℤ). reply (a .t) z (OwnerField 0))
+    (toZ-ofZ {w = w64} (c .before .fits .answer))))

@@ -15,5 +15,6 @@ unhandled-spec =
     (λ c κs. search needs)
     (λ c κs. search needs)
     (λ c.
-    let e = simp (c .before .over-tables2 .ensures, c .before .before .process-of .ensures) at (c .exit-process .ensures) in
+    let e = simp (c .before .over-tables2 .ensures, c .before .before .process-of .ensures) at
+    (c .exit-process .ensures) in
     search (branches, e)))

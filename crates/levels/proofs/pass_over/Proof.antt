@@ -18,6 +18,11 @@ pass-over-spec =
     (λ c.
     let d = c .before in
     let o = d .before in
-    let s = simp (d .level .ensures, o .owner-of .ensures, o .before .tried .ensures, o .before .before .level-at .ensures)
+    let s = simp (
+      d .level .ensures,
+      o .owner-of .ensures,
+      o .before .tried .ensures,
+      o .before .before .level-at .ensures,
+    )
     at (c .with-level .ensures) in
     s ∙ put-place _ _ _ _))

@@ -18,7 +18,9 @@ past : (c : tie.Else2) (t : Tables) {m : Move} →
     let a = c .before .before .before .before .before .before .before .before .before .before .args in
     let w = c .before .before .before .before .before .before .w .given .0 .0 in
     let e = c .before .before .e .given .0 .0 in
-    threadAt t (slot (a .thread)) ≡ a .v → m ≡ move (waits w (w .state) (InException (withHandled e (a .state =? 1)))) (pos 0) → moved t (a .thread) m ≡ setState t (a .thread) (a .state)
+    threadAt t (slot (a .thread)) ≡ a .v →
+    m ≡ move (waits w (w .state) (InException (withHandled e (a .state =? 1)))) (pos 0) →
+    moved t (a .thread) m ≡ setState t (a .thread) (a .state)
 unfolding setState
 past c t h e = search (moving) depth 20
 

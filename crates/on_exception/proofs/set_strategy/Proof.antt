@@ -16,7 +16,8 @@ use Rattle.on_exception.proofs.set_strategy.Tie as tie
 
 past-then3 : (c : tie.Then3) (t : Tables) {m : Move} →
     let a = c .before .before .before .before .before .before .before .before .before .before .before .before .args in
-    threadAt t (slot (a .thread)) ≡ a .v → m ≡ move (a .v) (minus 20) → moved t (a .thread) m ≡ setStrategy t (a .thread) (a .strategy)
+    threadAt t (slot (a .thread)) ≡ a .v → m ≡ move (a .v) (minus 20) →
+    moved t (a .thread) m ≡ setStrategy t (a .thread) (a .strategy)
 unfolding setStrategy
 past-then3 c t h e = search (moving) depth 20
 
@@ -24,7 +25,9 @@ past-else3 : (c : tie.Else3) (t : Tables) {m : Move} →
     let a = c .before .before .before .before .before .before .before .before .before .before .before .before .args in
     let w = c .before .before .before .before .before .before .before .before .w .given .0 .0 in
     let e = c .before .before .before .before .e .given .0 .0 in
-    threadAt t (slot (a .thread)) ≡ a .v → m ≡ move (waits w (w .state) (InException (withSecond e (a .strategy =? 1)))) (pos 0) → moved t (a .thread) m ≡ setStrategy t (a .thread) (a .strategy)
+    threadAt t (slot (a .thread)) ≡ a .v →
+    m ≡ move (waits w (w .state) (InException (withSecond e (a .strategy =? 1)))) (pos 0) →
+    moved t (a .thread) m ≡ setStrategy t (a .thread) (a .strategy)
 unfolding setStrategy
 past-else3 c t h e = search (moving) depth 20
 

@@ -16,7 +16,8 @@ use Rattle.on_wait.proofs.begin_wait.Tie as tie
 past : (c : tie.Else4) (t : Tables) {m : Move} →
     let a = c .before .before .before .before .before .before .before .before .before .before .before .args in
     let w = c .before .before .before .before .before .w .given .0 .0 in
-    threadAt t (slot (a .thread)) ≡ a .v → m ≡ move (waits w (a .state) InWait) (pos 0) → moved t (a .thread) m ≡ beginWait t (a .thread) (a .state)
+    threadAt t (slot (a .thread)) ≡ a .v → m ≡ move (waits w (a .state) InWait) (pos 0) →
+    moved t (a .thread) m ≡ beginWait t (a .thread) (a .state)
 unfolding beginWait waitBegun
 past c t h e = search (moving, second) depth 20
 

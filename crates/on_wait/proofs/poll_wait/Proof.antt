@@ -19,7 +19,8 @@ use Rattle.on_wait.proofs.poll_wait.Tie as tie
 past : (c : tie.Else4) (t : Tables) {m : Move} →
     let a = c .before .before .before .before .before .before .before .before .before .before .args in
     let w = c .before .before .before .before .before .w .given .0 .0 in
-    threadAt t (slot (a .thread)) ≡ a .v → m ≡ move (endWait w) (waitAnswer w (a .ready)) → moved t (a .thread) m ≡ pollWait t (a .thread) (a .ready)
+    threadAt t (slot (a .thread)) ≡ a .v → m ≡ move (endWait w) (waitAnswer w (a .ready)) →
+    moved t (a .thread) m ≡ pollWait t (a .thread) (a .ready)
 unfolding pollWait waitPolled
 past c t h e = search (moving, second) depth 20
 

@@ -13,19 +13,22 @@ with-level-spec =
     (λ c κs. search needs)
     (λ c κs. search needs)
     (λ c.
-    let e = simp (c .before .with-level1 .ensures, c .before .before .process-at .ensures) at (c .with-process .ensures) in
+    let e = simp (c .before .with-level1 .ensures, c .before .before .process-at .ensures) at
+    (c .with-process .ensures) in
     search (branches, e))
     (λ c κs. search needs)
     (λ c κs. search needs)
     (λ c κs. search needs)
     (λ c.
-    let e = simp (c .before .with-level2 .ensures, c .before .before .thread-at .ensures) at (c .with-thread .ensures) in
+    let e = simp (c .before .with-level2 .ensures, c .before .before .thread-at .ensures) at
+    (c .with-thread .ensures) in
     search (branches, e))
     (λ c κs. search needs)
     (λ c κs. search needs)
     (λ c κs. search needs)
     (λ c.
-    let e = simp (c .before .with-level3 .ensures, c .before .before .process-at2 .ensures) at (c .with-process2 .ensures) in
+    let e = simp (c .before .with-level3 .ensures, c .before .before .process-at2 .ensures) at
+    (c .with-process2 .ensures) in
     search (branches, e))
     (λ c κs. search needs)
     (λ c κs. search needs)

@@ -16,5 +16,6 @@ set-policy-four-spec =
     (λ c κs. search needs)
     (λ c.
     let f = c .before in
-    simp (f .four .ensures, f .before .inherited-at .ensures, f .before .before .own-at .ensures) at (c .finish .ensures)
+    simp (f .four .ensures, f .before .inherited-at .ensures, f .before .before .own-at .ensures) at
+    (c .finish .ensures)
     ∙ one-pass _ _ _ _))

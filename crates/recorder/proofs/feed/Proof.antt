@@ -153,8 +153,10 @@ loop-again c =
     let e = n .before .before in
     let l = e .before in
     let got : SFits w64 (d .decide .result .answer) = search (needs, d .decide .ok) in
-    let put = simp (m .next-number2 .ensures, toZ-ofZ {w = w64} got) at (roomy (e .if1 .left) (p .put-line .ensures .0)) in
-    let z = holds-there (holds (l .loop .t) (s .slots-of .result) _ _ _ _ _ _ (l .loop .inv .0) (s .slots-of .ensures .1))
+    let put = simp (m .next-number2 .ensures, toZ-ofZ {w = w64} got) at
+    (roomy (e .if1 .left) (p .put-line .ensures .0)) in
+    let z = holds-there (holds (l .loop .t) (s .slots-of .result) _ _ _ _ _ _ (l .loop .inv .0)
+    (s .slots-of .ensures .1))
     (s .slots-of .ensures .0) in
     let r = ap (λ (y : Slots). storedAt (l .loop .t) y (d .decide .result)) (s .slots-of .ensures .0)
     ∙ d .decide .ensures (l .loop .t) z (p .before .before .before .before .if2 .taken) in
@@ -279,7 +281,8 @@ loop-again-4 c =
       tokens = search (length-mapped, o .1 .1 .1 .1 .1 .1 .0);
     } in
     let got : SFits w64 (f .perform .result .answer) = search (needs, f .perform .ok) in
-    let put = simp (m .next-number2 .ensures, toZ-ofZ {w = w64} got) at (roomy (e .if1 .left) (p .put-line3 .ensures .0)) in
+    let put = simp (m .next-number2 .ensures, toZ-ofZ {w = w64} got) at
+    (roomy (e .if1 .left) (p .put-line3 .ensures .0)) in
     let g =
     goes (input l) (out₀ l) (l .loop .out) (state l) (here l) (l .loop .at) (l .loop .written)
     (l .loop .inv .1)
@@ -373,7 +376,11 @@ feed-spec =
     (λ c. search needs)
     (λ c. search needs)
     (λ c κs. search needs)
-    (λ c. omega (arith, fits (sized-2 (c .before .before .before .before)) .0, fits (sized-2 (c .before .before .before .before)) .1))
+    (λ c. omega (
+      arith,
+      fits (sized-2 (c .before .before .before .before)) .0,
+      fits (sized-2 (c .before .before .before .before)) .1,
+    ))
     loop-again-2
     (λ c. omega (arith, fits (sized-2 (c .before .before)) .0, fits (sized-2 (c .before .before)) .1))
     loop-again-3

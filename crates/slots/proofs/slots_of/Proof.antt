@@ -35,7 +35,16 @@ others : (n a b : ℕ) → (n ≡ 3 → ⊥) → (n ≡ 4 → ⊥) → (n ≡ 7 
     (n ≡ 19 → ⊥) → (n ≡ 30 → ⊥) → (n ≡ 31 → ⊥) → slotsOf a a a ≡ slotsBy n a b
 unfolding slotsBy if_then_else_
 others n a b h3 h4 h7 h8 h18 h19 h30 h31 =
-    rw (ne-eqb n 3 h3, ne-eqb n 4 h4, ne-eqb n 7 h7, ne-eqb n 8 h8, ne-eqb n 18 h18, ne-eqb n 19 h19, ne-eqb n 30 h30, ne-eqb n 31 h31)
+    rw (
+      ne-eqb n 3 h3,
+      ne-eqb n 4 h4,
+      ne-eqb n 7 h7,
+      ne-eqb n 8 h8,
+      ne-eqb n 18 h18,
+      ne-eqb n 19 h19,
+      ne-eqb n 30 h30,
+      ne-eqb n 31 h31,
+    )
 
 pub slots-of-spec : {M : Type 1} → statement M
 unfolding slotsBy if_then_else_

@@ -17,7 +17,8 @@ past-then6 c h = search answering depth 20
 
 past-else6 : (c : tie.Else6) {x : Reply} →
     let a = c .before .before .before .before .before .before .before .before .before .before .before .before .args in
-    x ≡ answered (createToken (a .t) (a .new) (a .kind) (a .name)) (pos 0) → x ≡ createTokenCall (a .t) (a .new) (a .kind) (a .name)
+    x ≡ answered (createToken (a .t) (a .new) (a .kind) (a .name)) (pos 0) →
+    x ≡ createTokenCall (a .t) (a .new) (a .kind) (a .name)
 unfolding createTokenCall
 past-else6 c h = search answering depth 20
 

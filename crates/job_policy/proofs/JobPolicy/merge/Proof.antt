@@ -14,7 +14,8 @@ use Rattle.job_policy.proofs.JobPolicy.merge.Tie as tie
 -- u is p with its first i entries merged with q's
 abbrev Merged : JobPolicy → JobPolicy → JobPolicy → ℕ → Type 0
 Merged p q u i =
-    (length (p .action) ≡ 15) × ((length (q .action) ≡ 15) × (u ≡ policy (zipTo mergedAction i (p .action) (q .action))))
+    (length (p .action) ≡ 15) × ((length (q .action) ≡ 15) ×
+    (u ≡ policy (zipTo mergedAction i (p .action) (q .action))))
 
 abbrev Inv-loop : tie.InvT-loop
 Inv-loop parent new₀ i₀ new i = Merged new₀ parent new i
@@ -35,8 +36,13 @@ module _ (p q u : JobPolicy) (i : ℕ) (inv : Merged p q u i) where
 
 loop-again : tie.Need-loop-again Inv-loop μ-loop
 loop-again c =
-    let l = c .before .before .before in
-    (search needs, (search needs, next _ _ _ _ (l .before .loop .inv) _ (l .loop-test .taken) (c .merged-action .ensures)))
+    let l = c .before .before .before in (
+      search needs,
+      (
+        search needs,
+        next _ _ _ _ (l .before .loop .inv) _ (l .loop-test .taken) (c .merged-action .ensures),
+      ),
+    )
 
 pub merge-spec : {M : Type 1} → statement M
 merge-spec =
