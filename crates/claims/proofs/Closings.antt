@@ -1,5 +1,5 @@
 -- An exception is over after at most 36 closings: `closings`. A closing lowers the exception's
--- place (`Lower`), no other call moves it (`Places`), and no call moves a job to another parent
+-- place (`Lower`), no other call moves it (`Others`), and no call moves a job to another parent
 -- (`Olds`), so one rank serves for all the calls. Assumes nothing.
 use Prim.Native.Nat.{ℕ, _<_}
 use native.Mathlib.Omega.{arith}
@@ -39,9 +39,11 @@ use Rattle.claims.proofs.Does.Ways.{exits, finishes}
 use Rattle.claims.proofs.Sound.{fresh-sound, sound-final, sound-step}
 use Rattle.claims.proofs.Sound.Downward.{above-made}
 use Rattle.claims.proofs.Sound.Make.{count-le}
-use Rattle.claims.proofs.Closings.Places.{idle≢held, Waits-at, others}
+use Rattle.claims.proofs.Closings.Places.{idle≢held, Waits-at}
+use Rattle.claims.proofs.Closings.Others.{others}
 use Rattle.claims.proofs.Closings.Lower.{height, Below, Ready, closing}
 pub mod Places
+pub mod Others
 pub mod Lower
 
 -- ---- The jobs that are there -------------------------------------------------------------------

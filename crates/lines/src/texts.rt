@@ -1,5 +1,5 @@
-// texts.rt: a byte, a text, a number, a flag or a policy written at a place of a lent buffer.
-// Each function answers the place after what it wrote.
+// texts.rt: a byte, a text, a number, a flag or a policy written at a place of a lent buffer. Each function answers the
+// place after what it wrote. Private to the crate: each requires its room, which put_line and put_stop have tested.
 ghost use mathlib.Core.Path.{_≡_};
 ghost use mathlib.Core.List.{[], _∷_};
 ghost use Prim.Native.Nat.{_+_, _≤_};

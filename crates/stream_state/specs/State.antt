@@ -6,7 +6,7 @@ use lib.ListN.{length}
 use Rattle.laws.specs.Choice.{_<?_, _=?_, if_then_else_}
 use Rattle.records.specs.declared.tables.Tables.{Tables}
 use Rattle.records.specs.Tables.{freshTables}
-use Rattle.lines.specs.Line.{stopLine}
+use Rattle.lines.specs.Line.{stopLine, within}
 use Rattle.stream_state.specs.declared.State.{State}
 
 -- 2 ^ 64 - 1 is the last number
@@ -27,5 +27,5 @@ unfoldable pub closing : State → List ℕ → List ℕ
 closing s bs = if length bs =? 0 then [] else stopAt s
 
 -- what a call of `close` writes
-unfoldable pub closedWithin : ℕ → State → List ℕ → List ℕ
-closedWithin room s bs = if room <? 128 then [] else closing s bs
+abbrev pub closedWithin : ℕ → State → List ℕ → List ℕ
+closedWithin room s bs = within room (closing s bs)

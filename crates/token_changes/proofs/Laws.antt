@@ -36,7 +36,8 @@ use Rattle.change.specs.declared.Change.{Change}
 use Rattle.change.specs.Change as defs
 use Rattle.change.proofs.Storing.{job-read, process-read, thread-read, token-read}
 use Rattle.token_changes.specs.TokenChanges.{taskMade}
-use Rattle.token_changes.proofs.Threads.{one-suspends, some-of-process, process-stored, some-of-thread}
+use Rattle.suspend_token.proofs.Each.{one-suspends}
+use Rattle.token_changes.proofs.Threads.{some-of-process, process-stored, some-of-thread}
 use Rattle.token_changes.proofs.Threads.{thread-stored}
 
 -- ---- A task by its kind ----------------------------------------------------------------------

@@ -8,9 +8,8 @@ use borrow.Author.Tests.{ne-eqb}
 use lib.IntN.{pos}
 use Rattle.laws.specs.Choice.{_=?_, if_then_else_}
 use Rattle.laws.specs.Lists.{any}
-use Rattle.thread_lists.specs.Each.{hasCount, oneOf, eachIn}
+use Rattle.thread_lists.specs.Each.{hasCount, eachIn}
 use Rattle.record_thread.specs.declared.Thread.{Thread}
-use Rattle.record_thread.specs.Thread.{suspend, resume}
 use Rattle.record_token.specs.declared.SuspendToken.{SuspendToken}
 use Rattle.records.specs.declared.tables.Tables.{Tables}
 use Rattle.reply.specs.Reply.{answered}
@@ -19,14 +18,6 @@ use Rattle.model.specs.SuspendToken.{someAt, changeTask, changeIn}
 use Rattle.change.specs.declared.Change.{Change}
 use Rattle.change.specs.Change as defs
 use Rattle.change.proofs.Storing.{thread-read, stores-token, stores-token-spreads}
-
-pub one-suspends : (p : ℕ) → eachIn 1 p ≡ changeIn suspend p
-unfolding eachIn oneOf changeIn if_then_else_
-one-suspends p = refl
-
-pub one-resumes : (p : ℕ) → eachIn 2 p ≡ changeIn resume p
-unfolding eachIn oneOf changeIn if_then_else_
-one-resumes p = refl
 
 pub some-of-process : (t : Tables) (kind n count : ℕ) → kind ≡ 1 →
     someAt t kind n count ≡ any (hasCount n count) (t .threads)

@@ -25,7 +25,8 @@ use Rattle.model.proofs.Answering.{answering, refuses, accepts, the-token, no-t
 use Rattle.change.specs.declared.Change.{Change}
 use Rattle.change.specs.Change as defs
 use Rattle.change.proofs.Storing.{token-read}
-use Rattle.token_changes.proofs.Threads.{one-resumes, some-of-process, process-stored, some-of-thread, thread-stored}
+use Rattle.suspend_token.proofs.Each.{one-resumes}
+use Rattle.token_changes.proofs.Threads.{some-of-process, process-stored, some-of-thread, thread-stored}
 
 -- o has the token read, c the thread that it names
 abbrev Drops : Tables → ℕ → Reply → Type 0

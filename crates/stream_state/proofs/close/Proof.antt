@@ -6,18 +6,19 @@ use lib.Seq.{length-take-le}
 use borrow.Author.Needs.{needs}
 use borrow.Author.Tests.{eq-eqb, ne-eqb, lt-ltb, le-ltb}
 use Rattle.laws.specs.Choice.{if_then_else_}
+use Rattle.lines.specs.Line.{within}
 use Rattle.lines.proofs.Puts.{roomy}
-use Rattle.stream_state.specs.State.{closing, closedWithin}
+use Rattle.stream_state.specs.State.{closing}
 use Rattle.stream_state.proofs.close.Statement.{statement}
 use Rattle.stream_state.proofs.close.Tie as tie
 
 returns : tie.Need-returns
-unfolding closedWithin if_then_else_
+unfolding within if_then_else_
 returns c =
     (simp (lt-ltb _ _ (c .if1 .taken)) (record { end = refl; holds = refl }), (omega arith, refl))
 
 returns-2 : tie.Need-returns-2
-unfolding closedWithin closing if_then_else_
+unfolding within closing if_then_else_
 returns-2 c = (
   simp (
     le-ltb _ _ (c .before .if1 .left),
@@ -27,7 +28,7 @@ returns-2 c = (
 )
 
 returns-3 : tie.Need-returns-3
-unfolding closedWithin closing if_then_else_
+unfolding within closing if_then_else_
 returns-3 c =
     let p = c .before .before in
     let two = p .before .before .before in
