@@ -4,10 +4,10 @@ use mathlib.Core.Path.{_≡_}
 use mathlib.Core.Bool.{true, false}
 use Rattle.laws.specs.Choice.{if_then_else_}
 use Rattle.records.specs.declared.tables.Tables.{Tables}
-use Rattle.records.specs.declared.tables.FoundJob.the-variants.{NoJob, OldJob}
-use Rattle.records.specs.declared.tables.FoundProcess.the-variants.{OldProcess}
-use Rattle.records.specs.declared.tables.FoundThread.the-variants.{OldThread}
-use Rattle.records.specs.declared.tables.FoundToken.the-variants.{NoToken, OldToken}
+use Rattle.record_job.specs.declared.FoundJob.the-variants.{NoJob, OldJob}
+use Rattle.record_process.specs.declared.FoundProcess.the-variants.{OldProcess}
+use Rattle.record_thread.specs.declared.FoundThread.the-variants.{OldThread}
+use Rattle.record_token.specs.declared.FoundToken.the-variants.{NoToken, OldToken}
 use Rattle.records.specs.Tables.{jobAt, processAt, threadAt, tokenAt}
 use Rattle.records.specs.Tables.{foundJob, foundProcess, foundThread, foundToken}
 

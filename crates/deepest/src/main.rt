@@ -52,8 +52,8 @@ fn chain() -> Tables {
 // Process 0 exits, and ends when its thread finishes. Then each end waits for the kill of a job, which waits for the
 // exit of a process, which waits for its end, up to the root.
 fn main() {
-    let mut t = job::exit_process(chain(), 0, 7);
-    t = job::finish_thread(t, 0);
+    let mut t = cascade::exit_process(chain(), 0, 7);
+    t = cascade::finish_thread(t, 0);
     let mut killed: u64 = 0;
     for k in 0..32u8 {
         let v = job_at(t, k);

@@ -165,7 +165,7 @@ fn put_exception(out: &mut [u8], at: usize, found: FoundException) -> usize {
 
 // The record has no state of a plain wait beside the stored one, which a kill makes Dying.
 fn put_wait(out: &mut [u8], at: usize, v: Thread) -> usize {
-    if thread_state::is_in_wait(v) {
+    if v.is_in_wait() {
         return texts::number(out, at, b" wait ", v.state as u64);
     }
     texts::put_text(out, at, b" wait -")
@@ -173,8 +173,8 @@ fn put_wait(out: &mut [u8], at: usize, v: Thread) -> usize {
 
 fn put_states(out: &mut [u8], at: usize, v: Thread) -> usize {
     let mut a = texts::number(out, at, b" stored ", v.state as u64);
-    a = texts::number(out, a, b" shown ", thread_state::state(v) as u64);
-    a = texts::number(out, a, b" signals ", signal_bits(thread_state::signals(v)));
+    a = texts::number(out, a, b" shown ", v.state() as u64);
+    a = texts::number(out, a, b" signals ", signal_bits(v.signals()));
     texts::number(out, a, b" suspends ", v.suspends as u64)
 }
 
@@ -187,7 +187,7 @@ fn put_life(out: &mut [u8], at: usize, v: Thread) -> usize {
 }
 
 fn put_waiting(out: &mut [u8], at: usize, v: Thread) -> usize {
-    let a = put_exception(out, at, thread_state::exception(v));
+    let a = put_exception(out, at, v.exception());
     put_wait(out, a, v)
 }
 

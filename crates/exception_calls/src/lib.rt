@@ -4,7 +4,7 @@ ghost use mathlib.Core.Path.{_≡_};
 ghost use Rattle.model.specs.ExceptionCalls.{raiseException, closeException};
 use error::Refusal;
 use record_thread::FoundException;
-use records::tables::FoundThread;
+use record_thread::FoundThread;
 use records::tables::Tables;
 use reply::Reply;
 use routes::is_no_type;
@@ -23,7 +23,7 @@ pub fn handle_exception(t: Tables, thread: u8, kind: u16) -> Reply
     let FoundThread::OldThread(v) = lookup::thread(t, thread) else {
         return Reply::answered(t, Refusal::NOT_MADE);
     };
-    if !thread_state::is_free(v) {
+    if !v.is_free() {
         return Reply::answered(t, Refusal::OUT_OF_TURN);
     }
     handling::raise(t, thread, kind)
@@ -39,7 +39,7 @@ pub fn close(t: Tables, thread: u8) -> Reply
     let FoundThread::OldThread(v) = lookup::thread(t, thread) else {
         return Reply::answered(t, Refusal::NOT_MADE);
     };
-    let FoundException::Held(e) = thread_state::exception(v) else {
+    let FoundException::Held(e) = v.exception() else {
         return Reply::answered(t, Refusal::OUT_OF_TURN);
     };
     handling::close(t, thread, e)

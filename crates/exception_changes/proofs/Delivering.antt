@@ -32,7 +32,7 @@ use Rattle.record_thread.specs.declared.FoundException.the-variants.{Held}
 use Rattle.record_thread.specs.declared.Thread.{Thread}
 use Rattle.record_thread.specs.Thread.{BLOCKED-EXCEPTION, waits, endWait, isFree, exceptionOf}
 use Rattle.records.specs.declared.tables.Tables.{Tables}
-use Rattle.records.specs.declared.tables.FoundThread.the-variants.{OldThread}
+use Rattle.record_thread.specs.declared.FoundThread.the-variants.{OldThread}
 use Rattle.reply.specs.declared.Fields.{Fields}
 use Rattle.reply.specs.declared.Fields.the-variants.{OwnerField}
 use Rattle.reply.specs.declared.Reply.{Reply}
@@ -46,7 +46,7 @@ use Rattle.model.specs.Exception.{firstHandler, nextHandler, unhandled, deliver
 use Rattle.model.specs.Exception.{levelAt, raiseExiting}
 use Rattle.model.specs.ExceptionCalls.{raiseException, closeException}
 use Rattle.model.proofs.Answering.{accepts, the-thread, the-exception}
-use Rattle.exception.specs.Places.{jobPlace}
+use Rattle.searching.specs.Places.{jobPlace}
 use Rattle.exception_over.specs.Over.{isOver}
 use Rattle.change.specs.declared.Change.{Change}
 use Rattle.change.specs.Change as defs

@@ -36,7 +36,7 @@ use Rattle.model.specs.Job.{onParent}
 use Rattle.model.specs.Exception as model
 use Rattle.model.specs.Exception.{processOf, levelAt, putLevelAt, passOver, noHandler, tryAt, searchUp}
 use Rattle.model.specs.Exception.{ownJob}
-use Rattle.exception.specs.Places.{jobPlace}
+use Rattle.searching.specs.Places.{jobPlace}
 use Rattle.exception_changes.specs.declared.Goes.{Goes}
 use Rattle.exception_changes.specs.declared.Goes.the-variants.{To, Nowhere, Up}
 use Rattle.exception_changes.specs.Goes.{Means, goesAt, levelIn, goesUp, fromSecond, fromProcess}

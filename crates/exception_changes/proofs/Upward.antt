@@ -16,7 +16,7 @@ use Rattle.record_job.specs.declared.Parent.the-variants.{Orphan, ChildOf}
 use Rattle.record_job.specs.declared.Job.{Job}
 use Rattle.record_job.specs.Job.{noJob}
 use Rattle.model.specs.Job.{onParent}
-use Rattle.exception.specs.Places.{jobPlace}
+use Rattle.searching.specs.Places.{jobPlace}
 use Rattle.exception_changes.specs.declared.Goes.{Goes}
 use Rattle.exception_changes.specs.declared.Goes.the-variants.{To, Nowhere, Passing}
 use Rattle.exception_changes.specs.Goes.{goesAt, isHungUp, levelIn, goesUp}

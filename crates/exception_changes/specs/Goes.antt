@@ -31,7 +31,7 @@ use Rattle.model.specs.declared.Handler.the-variants.{HandlerAt}
 use Rattle.model.specs.declared.Search.{Search}
 use Rattle.model.specs.Job.{onParent}
 use Rattle.model.specs.Exception.{isSynth, noHandler, searchUp}
-use Rattle.exception.specs.Places.{jobPlace}
+use Rattle.searching.specs.Places.{jobPlace}
 use Rattle.change.specs.declared.Change.{Change}
 use Rattle.change.specs.Change.{shown, withThread}
 use Rattle.exception_changes.specs.declared.Goes.{Goes}

@@ -11,7 +11,7 @@ ghost use Rattle.exception_changes.specs.Goes.{ownerIn, waitsAt, endsNow
 ghost use Rattle.exception_changes.specs.declared.Goes as Goes;
 ghost use Rattle.record_exception.specs.declared.Place as Place;
 ghost use Rattle.reply.specs.declared.Fields as Fields;
-ghost use Rattle.exception.specs.Places.{jobPlace};
+ghost use Rattle.searching.specs.Places.{jobPlace};
 use change::Change;
 use change::unchanged;
 use error::ZxError;
@@ -349,7 +349,7 @@ pub fn raise(t: Tables, thread: u8, kind: u16) -> Change
     if !v.made {
         return c;
     }
-    if !thread_state::is_free(v) {
+    if !v.is_free() {
         return c;
     }
     if kind == ExceptionType::THREAD_EXITING {
@@ -375,7 +375,7 @@ pub fn close(t: Tables, thread: u8) -> Change
 {
     let c = unchanged(t, 0, 0, thread, 0);
     let v = c.thread;
-    let FoundException::Held(e) = thread_state::exception(v) else {
+    let FoundException::Held(e) = v.exception() else {
         return c;
     };
     if 128 <= thread {

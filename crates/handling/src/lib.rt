@@ -5,8 +5,8 @@ ghost use Rattle.handling.specs.Handling.{answerOf};
 ghost use Rattle.model.specs.Exception.{overTables, outcome, unhandled, delivered, raiseExiting};
 ghost use Rattle.model.specs.Exception.{raise, close};
 use error::ZxError;
-use exception::first_handler;
-use exception::next_handler;
+use searching::first_handler;
+use searching::next_handler;
 use exception_over::is_over;
 use levels::level_at;
 use levels::owner_of;
@@ -48,7 +48,7 @@ fn unhandled(t: Tables, thread: u8, kind: u16) -> Tables
         return over_tables(t, thread);
     }
     let process = process_of(t, thread);
-    job::exit_process(over_tables(t, thread), process, Process::KILL_CODE)
+    cascade::exit_process(over_tables(t, thread), process, Process::KILL_CODE)
 }
 
 // The thread waits at the handler found, or goes on where there is none.

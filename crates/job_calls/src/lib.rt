@@ -5,7 +5,7 @@ ghost use Rattle.model.specs.JobCalls.{withChild, createChild, killJobCall};
 ghost use Rattle.model.specs.JobCalls.{setPolicyTimerSlack, jobInformation};
 use error::Refusal;
 use error::ZxError;
-use job::kill_job;
+use cascade::kill_job;
 use job_lists::job_empty;
 use job_lists::policy_of;
 use job_policy::TimerSlackPolicy;
@@ -13,7 +13,7 @@ use reading::inherited_at;
 use reading::job_at;
 use reading::own_at;
 use record_job::Job;
-use records::tables::FoundJob;
+use record_job::FoundJob;
 use records::tables::Tables;
 use reply::Reply;
 

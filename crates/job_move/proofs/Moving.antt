@@ -11,7 +11,7 @@ use lib.Seq.{set-getD}
 use Rattle.record_job.specs.declared.Job.{Job}
 use Rattle.record_job.specs.Job.{noJob}
 use Rattle.records.specs.declared.tables.Tables.{Tables}
-use Rattle.records.specs.declared.tables.FoundJob.{FoundJob}
+use Rattle.record_job.specs.declared.FoundJob.{FoundJob}
 use Rattle.reply.specs.Reply.{answered}
 use Rattle.records.specs.Tables.{jobAt, putJob, foundJob, withJobs}
 use Rattle.job_move.specs.declared.Move.{Move}

@@ -9,8 +9,8 @@ use Rattle.job_policy.specs.Policy.{noPolicy}
 use Rattle.job_policy.specs.declared.JobPolicy.{JobPolicy}
 use Rattle.record_job.specs.declared.Job.{Job}
 use Rattle.records.specs.declared.tables.Tables.{Tables}
-use Rattle.records.specs.declared.tables.FoundJob.{FoundJob}
-use Rattle.records.specs.declared.tables.FoundJob.the-variants.{NoJob, OldJob}
+use Rattle.record_job.specs.declared.FoundJob.{FoundJob}
+use Rattle.record_job.specs.declared.FoundJob.the-variants.{NoJob, OldJob}
 use Rattle.reply.specs.declared.Fields.the-variants.{NoFields}
 use Rattle.reply.specs.declared.Reply.{Reply}
 use Rattle.reply.specs.Reply.{replyWith}

@@ -4,7 +4,7 @@ ghost use mathlib.Core.Path.{_≡_};
 ghost use Rattle.job_move.specs.JobMove.{move, foundIn, moved};
 use job_policy::JobPolicy;
 use record_job::Job;
-use records::tables::FoundJob;
+use record_job::FoundJob;
 use records::tables::Tables;
 use reply::Fields;
 use reply::Reply;

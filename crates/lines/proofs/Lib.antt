@@ -1,4 +1,3 @@
 -- What the proofs of the lines cite.
 pub mod Puts
 pub mod Numbers
-pub mod Lengths

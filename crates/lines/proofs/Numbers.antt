@@ -1,128 +1,104 @@
 -- Numbers as text.
---     one-digit, decimal-short    a number below 10; no text is longer than 20
---     places-are                  how many digits n has, by powers of ten
---     lasts, lasts-are            the last k digits of n, and all of them
---     put-below, put-from         a signed number by its distance from 0
+--     last-digit, one-digit          a number below 10
+--     decimal-parts, digits-parts    the text of n / 10 ^ k, and then the last k digits of n
+--     put-more, put-twice            the same for a number that is written in two parts
+--     zero-text, below-text, from-text        a signed number by its distance from 0
 --     gap-fits, gap-casts, gap-sum, nonneg    that distance, as the machine takes it
 -- Assumes nothing.
 use Prim.Native.Nat.{ℕ, zero, suc, _+_, _-_, _*_, _/_, _%_, _^_, _≤_, _<_}
 use native.Mathlib.Omega.{arith}
-use native.Mathlib.Numerals.{add-one}
-use native.Mathlib.Nat.{pow-suc, one-le-pow, pow-le-pow-right, div-lt-iff-lt-mul, le-div-iff-mul-le}
+use native.Mathlib.Nat.{pow-suc, pow-succ', one-le-pow, mul-assoc}
+use native.Mathlib.Nat.{div-one, div-add-mod', div-div-eq-div-mul}
 use mathlib.Core.Path.{_≡_, refl, sym, _∙_, ap}
-use mathlib.Core.Bool.{Bool, true, false, true≢false}
-use mathlib.Core.List.{List, [], _∷_, _++_}
-use borrow.Author.Tests.{lt-ltb, le-ltb, ltb-true, ltb-false}
-use lib.Dec.{T, ltb, lit<}
-use lib.ListN.{length, length-append}
+use mathlib.Core.Bool.{true, false, true≢false}
+use mathlib.Core.List.{List, [], _∷_, _++_, append-assoc, append-nil}
+use borrow.Author.Tests.{lt-ltb, le-ltb, ltb-true}
+use lib.Dec.{T, lit<}
 use lib.IntN.{ℤ, pos, negsuc, natAbs, _-ℤ_}
 use lib.Signed.{ltZ, nonNeg}
 use mir.Syntax.{w64}
 use mir.Val.{Fits, SFits, toZ, ofZ}
 use mir.Facts.{toZ-ofZ, toZ-pos, toZ-neg}
 use Rattle.laws.specs.Choice.{if_then_else_}
-use Rattle.laws.proofs.Cases.{if-on}
-use Rattle.lines.specs.Line.{MINUS, digit, textWithin, decimalText, signedText, field, Put}
+use Rattle.lines.specs.Line.{MINUS, digit, textWithin, decimalText, lastDigits, signedText}
+use Rattle.lines.specs.Line.{Put}
+use Rattle.lines.proofs.Puts.{put-then}
 
--- ---- Texts ---------------------------------------------------------------------------------
+-- ---- Digits --------------------------------------------------------------------------------
 
-pub one-digit : (n : ℕ) → n < 10 → digit n ∷ [] ≡ decimalText n
-unfolding decimalText textWithin if_then_else_
-one-digit n h = rw (lt-ltb n 10 h)
+module _ (n : ℕ) (h : n < 10) where
+  itself : n % 10 ≡ n
+  itself = omega arith
 
-within-short : (f n : ℕ) → length (textWithin f n) ≤ suc f
-unfolding textWithin
-within-short zero n = omega arith
-within-short (suc f) n =
-    if-on (λ t. length t ≤ suc (suc f)) (ltb n 10)
-    (digit n ∷ []) (textWithin f (n / 10) ++ digit (n % 10) ∷ [])
-    (λ _. omega arith) (λ _. simp length-append (omega (arith, within-short f (n / 10))))
+  pub last-digit : digit n ∷ [] ≡ lastDigits 1 n
+  unfolding lastDigits
+  last-digit = rw itself
 
-pub decimal-short : (n : ℕ) → length (decimalText n) ≤ 20
-unfolding decimalText
-decimal-short n = within-short 19 n
-
--- the last k digits of n
-abbrev pub lasts : ℕ → ℕ → List ℕ
-lasts zero n = []
-lasts (suc k) n = lasts k (n / 10) ++ digit (n % 10) ∷ []
-
--- ---- How many digits -----------------------------------------------------------------------
-
--- r digits hold n, and no fewer do
-abbrev pub Fewest : ℕ → ℕ → Type 0
-Fewest n r = (1 ≤ r) × ((n < 10 ^ r) × (1 < r → 10 ^ (r - 1) ≤ n))
-
--- a number of two digits or more, without its last
-module _ (n k : ℕ) (h : Fewest n (suc (suc k))) where
-  at-least : 10 ^ k * 10 ≤ n
-  at-least =
-      let e : suc (suc k) - 1 ≡ suc k = omega arith in
-      let g : 10 ^ (suc (suc k) - 1) ≤ n = h .1 .1 (omega arith) in
-      rw (← pow-suc) (rw e at g)
-
-  large : 10 ≤ n
-  large = omega (arith, at-least, one-le-pow k 10 (lit< tt))
-
-  tenth : Fewest (n / 10) (suc k)
-  tenth =
-      let g : n < 10 ^ suc k * 10 = rw (pow-suc 10 (suc k)) at (h .1 .0) in
-      let e : suc k - 1 ≡ k = omega arith in
-      let u = div-lt-iff-lt-mul {k = 10} {x = n} {y = 10 ^ suc k} (lit< tt) .1 g in
-      let l = le-div-iff-mul-le {k = 10} {x = 10 ^ k} {y = n} (lit< tt) .1 at-least in
-      (omega arith, (u, λ _. rw e l))
-
-within-is : (f n r : ℕ) → Fewest n r → r ≤ suc f → lasts r n ≡ textWithin f n
-unfolding textWithin if_then_else_
-within-is f n zero h l = absurd (omega (arith, h .0))
-within-is zero n (suc zero) h l = refl
-within-is (suc f) n (suc zero) h l =
-    let s : n < 10 = h .1 .0 in
-    let e : n % 10 ≡ n = omega arith in
-    rw (lt-ltb n 10 s) (ap (λ (d : ℕ). digit d ∷ []) e)
-within-is zero n (suc (suc k)) h l = absurd (omega arith)
-within-is (suc f) n (suc (suc k)) h l =
-    let ih = within-is f (n / 10) (suc k) (tenth n k h) (omega arith) in
-    rw (le-ltb n 10 (large n k h)) (ap (λ (t : List ℕ). t ++ digit (n % 10) ∷ []) ih)
-
-length-lasts : (k n : ℕ) → length (lasts k n) ≡ k
-length-lasts zero n = refl
-length-lasts (suc k) n = simp length-append (omega (arith, length-lasts k (n / 10)))
-
--- a number of 64 bits has at most 20 digits
-short-by : (n r : ℕ) (b : Bool) → ltb 20 r ≡ b → n < 2 ^ 64 → Fewest n r → r ≤ 20
-short-by n r true e l h =
-    let g : 20 < r = ltb-true 20 r e in
-    let p : 10 ^ 20 ≤ 10 ^ (r - 1) =
-    pow-le-pow-right {n = 10} (lit< tt) {i = 20} {j = r - 1} (omega arith) in
-    absurd (omega (arith, p, h .1 .1 (omega arith)))
-short-by n r false e l h = ltb-false 20 r e
-
-pub places-are : (n r : ℕ) → n < 2 ^ 64 → Fewest n r → r ≡ length (decimalText n)
-unfolding decimalText
-places-are n r l h =
-    sym (length-lasts r n) ∙ ap length (within-is 19 n r h (short-by n r (ltb 20 r) refl l h))
+  pub one-digit : lastDigits 1 n ≡ decimalText n
+  unfolding decimalText textWithin lastDigits if_then_else_
+  one-digit = rw (lt-ltb n 10 h, itself)
 
 -- one digit more
-more : (n : ℕ) (t : List ℕ) → lasts (length t) (n / 10) ≡ t →
-    lasts (length (t ++ digit (n % 10) ∷ [])) n ≡ t ++ digit (n % 10) ∷ []
-more n t e = rw (length-append, add-one) (ap (λ (s : List ℕ). s ++ digit (n % 10) ∷ []) e)
+within-ten : (f n : ℕ) → 10 ≤ n →
+    textWithin (suc f) n ≡ textWithin f (n / 10) ++ digit (n % 10) ∷ []
+unfolding textWithin if_then_else_
+within-ten f n h = rw (le-ltb n 10 h)
 
-lasts-within : (f n : ℕ) → lasts (length (textWithin f n)) n ≡ textWithin f n
-unfolding textWithin
-lasts-within zero n = refl
-lasts-within (suc f) n =
-    if-on (λ t. lasts (length t) n ≡ t) (ltb n 10)
-    (digit n ∷ []) (textWithin f (n / 10) ++ digit (n % 10) ∷ [])
-    (λ b.
-    let h : n < 10 = ltb-true n 10 b in
-    let e : n % 10 ≡ n = omega arith in
-    ap (λ (d : ℕ). digit d ∷ []) e)
-    (λ _. more n (textWithin f (n / 10)) (lasts-within f (n / 10)))
+-- room for more digits than there are changes nothing
+within-stays : (f n : ℕ) → n < 10 ^ suc f → textWithin f n ≡ textWithin (suc f) n
+unfolding textWithin if_then_else_
+within-stays zero n h = rw (lt-ltb n 10 h, itself n h)
+within-stays (suc f) n h =
+    let l : n / 10 < 10 ^ suc f = omega (arith, pow-suc 10 (suc f)) in
+    rw (within-stays f (n / 10) l)
 
-pub lasts-are : (n : ℕ) → lasts (length (decimalText n)) n ≡ decimalText n
+decimal-ten : (n : ℕ) → 10 ≤ n → n < 2 ^ 64 →
+    decimalText n ≡ decimalText (n / 10) ++ digit (n % 10) ∷ []
 unfolding decimalText
-lasts-are n = lasts-within 19 n
+decimal-ten n h l = within-ten 18 n h ∙ rw (within-stays 18 (n / 10) (omega arith))
+
+-- ---- A number is its first digits and its last k, for every width k ------------------------
+
+decimal-parts : (k n : ℕ) → 10 ^ k ≤ n → n < 2 ^ 64 →
+    decimalText n ≡ decimalText (n / 10 ^ k) ++ lastDigits k n
+unfolding lastDigits
+decimal-parts zero n h l = rw (div-one, append-nil)
+decimal-parts (suc k) n h l =
+    let g : 10 ^ k ≤ n / 10 = omega (arith, pow-suc 10 k) in
+    let ten : 10 ≤ n = omega (arith, pow-suc 10 k, one-le-pow k 10 (lit< tt)) in
+    let t = decimal-parts k (n / 10) g (omega arith) in
+    decimal-ten n ten l ∙ rw (t, pow-succ' 10 k, ← div-div-eq-div-mul n 10 (10 ^ k), append-assoc)
+
+digits-parts : (k j n : ℕ) → lastDigits (j + k) n ≡ lastDigits j (n / 10 ^ k) ++ lastDigits k n
+unfolding lastDigits
+digits-parts zero j n = let e : j + 0 ≡ j = omega arith in rw (e, div-one, append-nil)
+digits-parts (suc k) j n =
+    let e : j + suc k ≡ suc (j + k) = omega arith in
+    let t = digits-parts k j (n / 10) in
+    rw (e, t, pow-succ' 10 k, ← div-div-eq-div-mul n 10 (10 ^ k), append-assoc)
+
+-- what stands before the last k digits does not matter
+last-of : (k a b : ℕ) → lastDigits k (a * 10 ^ k + b) ≡ lastDigits k b
+unfolding lastDigits
+last-of zero a b = refl
+last-of (suc k) a b =
+    let e : a * 10 ^ suc k ≡ a * 10 ^ k * 10 = rw (pow-suc 10 k, ← mul-assoc a (10 ^ k) 10) in
+    let d : (a * 10 ^ suc k + b) / 10 ≡ a * 10 ^ k + b / 10 = omega arith in
+    let m : (a * 10 ^ suc k + b) % 10 ≡ b % 10 = omega arith in
+    rw (d, m, last-of k a (b / 10))
+
+last-by : (k n : ℕ) → lastDigits k n ≡ lastDigits k (n % 10 ^ k)
+last-by k n = rw (div-add-mod' n (10 ^ k)) at (last-of k (n / 10 ^ k) (n % 10 ^ k))
+
+-- written in two parts
+module _ {x y z : List ℕ} {i j r : ℕ} (k n : ℕ) where
+  pub put-more : 10 ^ k ≤ n → n < 2 ^ 64 → Put x y i j (decimalText (n / 10 ^ k)) →
+      Put y z j r (lastDigits k (n % 10 ^ k)) → Put x z i r (decimalText n)
+  put-more h l p q = rw (decimal-parts k n h l, last-by k n) (put-then p q)
+
+  pub put-twice : Put x y i j (lastDigits k (n / 10 ^ k)) →
+      Put y z j r (lastDigits k (n % 10 ^ k)) → Put x z i r (lastDigits (k + k) n)
+  put-twice p q = rw (digits-parts k k n, last-by k n) (put-then p q)
 
 -- ---- Signed numbers ------------------------------------------------------------------------
 
@@ -130,29 +106,22 @@ lasts-are n = lasts-within 19 n
 pub number-is : (z : ℤ) → SFits w64 z → toZ w64 (ofZ w64 z) ≡ z
 number-is z f = toZ-ofZ {w = w64} f
 
--- the text of a signed number, by its distance n from 0
-module _ {before now : List ℕ} {at r : ℕ} (z : ℤ) where
-  pub put-below : (n : ℕ) → n ≡ natAbs z → ltZ z (pos 0) ≡ true →
-      Put before now at r (MINUS ∷ decimalText n) → Put before now at r (signedText z)
-  unfolding signedText
-  put-below n e b p = by-sign z e b
-    where
-      by-sign : (z : ℤ) → n ≡ natAbs z → ltZ z (pos 0) ≡ true → Put before now at r (signedText z)
-      by-sign (pos m) e b = absurd (omega (arith, ltb-true m 0 b))
-      by-sign (negsuc m) e b = rw e at p
+-- the text of 0, of a number below 0 and of another, by the distance from 0
+pub zero-text : (z : ℤ) → SFits w64 z → ofZ w64 z ≡ 0 → signedText z ≡ digit 0 ∷ []
+unfolding signedText
+zero-text z f e =
+    let i : z ≡ pos 0 = sym (number-is z f) ∙ ap (toZ w64) e in
+    rw i (sym (last-digit 0 (lit< tt) ∙ one-digit 0 (lit< tt)))
 
-  pub put-from : (n : ℕ) → n ≡ natAbs z → ltZ z (pos 0) ≡ false →
-      Put before now at r (decimalText n) → Put before now at r (signedText z)
-  unfolding signedText
-  put-from n e b p = by-sign z e b
-    where
-      by-sign : (z : ℤ) → n ≡ natAbs z → ltZ z (pos 0) ≡ false → Put before now at r (signedText z)
-      by-sign (pos m) e b = rw e at p
-      by-sign (negsuc m) e b = absurd (true≢false b)
+pub below-text : (z : ℤ) → ltZ z (pos 0) ≡ true → signedText z ≡ MINUS ∷ decimalText (natAbs z)
+unfolding signedText
+below-text (pos n) b = absurd (omega (arith, ltb-true n 0 b))
+below-text (negsuc n) b = refl
 
-  pub put-read : SFits w64 z → Put before now at r (field (signedText (toZ w64 (ofZ w64 z)))) →
-      Put before now at r (field (signedText z))
-  put-read f p = rw (number-is z f) at p
+pub from-text : (z : ℤ) → ltZ z (pos 0) ≡ false → signedText z ≡ decimalText (natAbs z)
+unfolding signedText
+from-text (pos n) b = refl
+from-text (negsuc n) b = absurd (true≢false b)
 
 -- -1 - z as the machine has it
 abbrev gap : ℤ → ℤ

@@ -31,7 +31,8 @@ put-one l at byte h = record { end = refl; holds = rw (add-one, take-suc-set l a
 pub put-none : (l : List ℕ) (at : ℕ) → Put l l at at []
 put-none l at = record { end = omega arith; holds = sym (append-nil (take at l)) }
 
-pub no-room : (l : List ℕ) (at : ℕ) (line : List ℕ) → length l - at < 128 → Put l l at at (within (length l - at) line)
+pub no-room : (l : List ℕ) (at : ℕ) (line : List ℕ) → length l - at < 128 →
+    Put l l at at (within (length l - at) line)
 unfolding within if_then_else_
 no-room l at line h = rw (lt-ltb _ _ h) (put-none l at)
 

@@ -42,6 +42,11 @@ textWithin (suc f) n =
 unfoldable pub decimalText : ℕ → List ℕ
 decimalText n = textWithin 19 n
 
+-- the last k digits of n, zeros in front too
+unfoldable pub lastDigits : ℕ → ℕ → List ℕ
+lastDigits zero n = []
+lastDigits (suc k) n = lastDigits k (n / 10) ++ digit (n % 10) ∷ []
+
 unfoldable pub signedText : ℤ → List ℕ
 signedText (pos n) = decimalText n
 signedText (negsuc n) = MINUS ∷ decimalText (suc n)
@@ -92,9 +97,12 @@ fieldsText (JobFields k t a m) p = jobText k t a m p
 fieldsText (ProcessFields c s e d t) p = processText c s e d t
 fieldsText (ThreadFields s l n) p = threadText s l n
 
+abbrev pub lineWith : (number : ℕ) (answer : ℤ) (fields : List ℕ) → List ℕ
+lineWith number answer fields =
+    decimalText number ++ field (signedText answer) ++ fields ++ NEWLINE ∷ []
+
 unfoldable pub lineOf : (number : ℕ) (answer : ℤ) → Fields → JobPolicy → List ℕ
-lineOf number answer fields p =
-    decimalText number ++ field (signedText answer) ++ fieldsText fields p ++ NEWLINE ∷ []
+lineOf number answer fields p = lineWith number answer (fieldsText fields p)
 
 -- s, t, o, p
 unfoldable pub stopLine : (number : ℕ) → List ℕ

@@ -1,10 +1,10 @@
 // lookup: a name looked up in the tables: a made record, or an absence.
 ghost use mathlib.Core.Path.{_≡_};
 ghost use Rattle.records.specs.Tables.{foundJob, foundProcess, foundThread, foundToken};
-use records::tables::FoundJob;
-use records::tables::FoundProcess;
-use records::tables::FoundThread;
-use records::tables::FoundToken;
+use record_job::FoundJob;
+use record_process::FoundProcess;
+use record_thread::FoundThread;
+use record_token::FoundToken;
 use records::tables::Tables;
 
 // A made job.

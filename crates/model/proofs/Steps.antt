@@ -128,7 +128,7 @@ exiting t p code v r u e h f g =
     }
 
 module _ (t : Tables) (p : ℕ) (code : ℤ) (u : Tables) (m : Exiting t p code u) where
-  exit-step : exitListed killJob u p ≡ exitProcess t p code
+  pub exit-step : exitListed killJob u p ≡ exitProcess t p code
   unfolding exitStep
   exit-step =
       ap (λ (w : Tables). exitListed killJob w p) (m .after) ∙ yes _ _ (m .live) refl ∙ sym

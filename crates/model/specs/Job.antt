@@ -165,9 +165,10 @@ exitProcess t p code = exitWithin (suc (remaining t)) t p code
 unfoldable pub endProcess : Tables → ℕ → Tables
 endProcess t p = endStep killJob t p
 
--- `Thread::terminate` and `remove_thread`: the process ends when its last listed thread finishes
--- (M7)
+-- `Process::remove_thread`: a process ends when its last listed thread finishes (M7)
+abbrev pub removeThread : Tables → ℕ → Tables
+removeThread t p = if listsThread t p then t else endProcess t p
+
+-- `Thread::terminate`
 unfoldable pub finishThread : Tables → ℕ → Tables
-finishThread t n =
-    let u : Tables = putThread t n (finish (threadAt t n)) in
-    if listsThread u (threadAt t n .process) then u else endProcess u (threadAt t n .process)
+finishThread t n = removeThread (putThread t n (finish (threadAt t n))) (threadAt t n .process)

@@ -9,7 +9,7 @@ use pair_move::pair;
 use process_move::found;
 use record_process::Process;
 use record_thread::Thread;
-use records::tables::FoundProcess;
+use record_process::FoundProcess;
 
 // 08: `Thread::create_with_ext`: v is the record of the new name.
 pub fn create_thread(process: u8, new: u8, q: Process, v: Thread) -> Both
@@ -28,7 +28,7 @@ pub fn create_thread(process: u8, new: u8, q: Process, v: Thread) -> Both
         return pair(q, v, Refusal::USED);
     }
     let status = old.status;
-    if process_status::is_exited(status) {
+    if status.is_exited() {
         return pair(q, v, ZxError::BAD_STATE);
     }
     pair(q, Thread::new(process), 0)

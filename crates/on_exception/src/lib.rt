@@ -9,7 +9,7 @@ use record_exception::Exception;
 use record_thread::FoundException;
 use record_thread::Thread;
 use record_thread::Waiting;
-use records::tables::FoundThread;
+use record_thread::FoundThread;
 use thread_move::Move;
 use thread_move::answered;
 use thread_move::found;
@@ -24,7 +24,7 @@ pub fn set_state(thread: u8, v: Thread, state: u32) -> Move
     let FoundThread::OldThread(w) = found(v) else {
         return answered(v, Refusal::NOT_MADE);
     };
-    let FoundException::Held(e) = thread_state::exception(w) else {
+    let FoundException::Held(e) = w.exception() else {
         return answered(v, Refusal::OUT_OF_TURN);
     };
     if 1 < state {
@@ -57,7 +57,7 @@ pub fn set_strategy(thread: u8, v: Thread, strategy: u32) -> Move
     let FoundThread::OldThread(w) = found(v) else {
         return answered(v, Refusal::NOT_MADE);
     };
-    let FoundException::Held(e) = thread_state::exception(w) else {
+    let FoundException::Held(e) = w.exception() else {
         return answered(v, Refusal::OUT_OF_TURN);
     };
     if 1 < strategy {
@@ -81,7 +81,7 @@ pub fn get_process_handle(thread: u8, v: Thread) -> Move
     let FoundThread::OldThread(w) = found(v) else {
         return answered(v, Refusal::NOT_MADE);
     };
-    let FoundException::Held(e) = thread_state::exception(w) else {
+    let FoundException::Held(e) = w.exception() else {
         return answered(v, Refusal::OUT_OF_TURN);
     };
     let place = e.place;

@@ -11,8 +11,8 @@ use process_move::Move;
 use process_move::found;
 use record_job::Job;
 use record_process::Process;
-use records::tables::FoundJob;
-use records::tables::FoundProcess;
+use record_job::FoundJob;
+use record_process::FoundProcess;
 use reply::Fields;
 
 // Decided: an answer, and the process stays.
@@ -54,7 +54,7 @@ pub fn exit(process: u8, q: Process) -> Early
         return decided(q, Refusal::NOT_MADE);
     };
     let status = q.status;
-    if process_status::is_exited(status) {
+    if status.is_exited() {
         return decided(q, 0);
     }
     left_open(q)
@@ -82,7 +82,7 @@ pub fn set_critical_at_job(process: u8, job: u8, flag: u8, q: Process, j: Job) -
         return decided(q, Refusal::NOT_MADE);
     };
     let critical = w.critical;
-    if process_status::is_bound(critical) {
+    if critical.is_bound() {
         return decided(q, ZxError::ALREADY_BOUND);
     }
     left_open(q)

@@ -13,7 +13,7 @@ use job_move::found;
 use job_policy::JobPolicy;
 use job_policy::TimerSlackPolicy;
 use record_job::Job;
-use records::tables::FoundJob;
+use record_job::FoundJob;
 use reply::Fields;
 
 // -- Showing -------------------------------------------------------------------------------

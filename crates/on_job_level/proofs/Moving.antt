@@ -11,8 +11,8 @@ use Rattle.laws.proofs.Named.{by-name}
 use Rattle.record_exception.specs.declared.Level.{Level}
 use Rattle.record_job.specs.declared.Job.{Job}
 use Rattle.records.specs.declared.tables.Tables.{Tables}
-use Rattle.records.specs.declared.tables.FoundJob.{FoundJob}
-use Rattle.records.specs.declared.tables.FoundJob.the-variants.{NoJob, OldJob}
+use Rattle.record_job.specs.declared.FoundJob.{FoundJob}
+use Rattle.record_job.specs.declared.FoundJob.the-variants.{NoJob, OldJob}
 use Rattle.reply.specs.Reply.{answered}
 use Rattle.records.specs.Tables.{jobAt, putJob, foundJob}
 use Rattle.owners.specs.declared.FoundLevel.{FoundLevel}

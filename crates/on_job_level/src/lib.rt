@@ -12,7 +12,7 @@ use job_move::found;
 use owners::FoundLevel;
 use record_exception::Level;
 use record_job::Job;
-use records::tables::FoundJob;
+use record_job::FoundJob;
 
 // The level of a made job.
 fn found_level(debugger: bool, j: Job) -> FoundLevel

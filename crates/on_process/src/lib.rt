@@ -14,7 +14,7 @@ use process_move::Move;
 use process_move::answered;
 use process_move::found;
 use record_process::Process;
-use records::tables::FoundProcess;
+use record_process::FoundProcess;
 use reply::Fields;
 
 // -- Showing -------------------------------------------------------------------------------
@@ -27,8 +27,8 @@ fn fields_of(q: Process) -> Fields
     let level1 = q.level1;
     Fields::ProcessFields {
         code: status.code(),
-        started: !process_status::is_init(status),
-        exited: process_status::is_exited(status),
+        started: !status.is_init(),
+        exited: status.is_exited(),
         debugger: level1.is_bound(),
         terminated: q.terminated,
     }

@@ -11,8 +11,8 @@ use Rattle.laws.proofs.Named.{by-name}
 use Rattle.record_exception.specs.declared.Level.{Level}
 use Rattle.record_process.specs.declared.Process.{Process}
 use Rattle.records.specs.declared.tables.Tables.{Tables}
-use Rattle.records.specs.declared.tables.FoundProcess.{FoundProcess}
-use Rattle.records.specs.declared.tables.FoundProcess.the-variants.{NoProcess, OldProcess}
+use Rattle.record_process.specs.declared.FoundProcess.{FoundProcess}
+use Rattle.record_process.specs.declared.FoundProcess.the-variants.{NoProcess, OldProcess}
 use Rattle.reply.specs.Reply.{answered}
 use Rattle.records.specs.Tables.{processAt, putProcess, foundProcess}
 use Rattle.owners.specs.declared.FoundLevel.{FoundLevel}

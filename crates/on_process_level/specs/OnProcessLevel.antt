@@ -5,8 +5,8 @@ use Rattle.laws.specs.Choice.{if_then_else_}
 use Rattle.record_exception.specs.declared.Level.{Level}
 use Rattle.record_process.specs.declared.Process.{Process}
 use Rattle.record_process.specs.Process.{withLevel1, withLevel3}
-use Rattle.records.specs.declared.tables.FoundProcess.{FoundProcess}
-use Rattle.records.specs.declared.tables.FoundProcess.the-variants.{NoProcess, OldProcess}
+use Rattle.record_process.specs.declared.FoundProcess.{FoundProcess}
+use Rattle.record_process.specs.declared.FoundProcess.the-variants.{NoProcess, OldProcess}
 use Rattle.owners.specs.declared.FoundLevel.{FoundLevel}
 use Rattle.owners.specs.declared.FoundLevel.the-variants.{NoLevel, OldLevel}
 use Rattle.process_move.specs.ProcessMove.{foundIn}

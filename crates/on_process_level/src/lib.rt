@@ -12,7 +12,7 @@ use process_move::answered;
 use process_move::found;
 use record_exception::Level;
 use record_process::Process;
-use records::tables::FoundProcess;
+use record_process::FoundProcess;
 
 // The level of a made process.
 fn found_level(debugger: bool, q: Process) -> FoundLevel

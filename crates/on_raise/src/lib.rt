@@ -12,7 +12,7 @@ use record_exception::ExceptionType;
 use record_thread::FoundException;
 use record_thread::Thread;
 use record_thread::ThreadState;
-use records::tables::FoundThread;
+use record_thread::FoundThread;
 use reply::Fields;
 use routes::is_no_type;
 use routes::route_of;
@@ -71,7 +71,7 @@ pub fn finish(thread: u8, v: Thread) -> Early
     let FoundThread::OldThread(w) = found(v) else {
         return decided(v, Refusal::NOT_MADE);
     };
-    if !thread_state::is_free(w) {
+    if !w.is_free() {
         return decided(v, Refusal::OUT_OF_TURN);
     }
     undecided(v)
@@ -90,7 +90,7 @@ pub fn handle_exception(thread: u8, v: Thread, kind: u16) -> Early
     let FoundThread::OldThread(w) = found(v) else {
         return decided(v, Refusal::NOT_MADE);
     };
-    if !thread_state::is_free(w) {
+    if !w.is_free() {
         return decided(v, Refusal::OUT_OF_TURN);
     }
     if kind == ExceptionType::THREAD_EXITING {
@@ -112,7 +112,7 @@ pub fn close(thread: u8, v: Thread) -> Early
     let FoundThread::OldThread(w) = found(v) else {
         return decided(v, Refusal::NOT_MADE);
     };
-    let FoundException::Held(e) = thread_state::exception(w) else {
+    let FoundException::Held(e) = w.exception() else {
         return decided(v, Refusal::OUT_OF_TURN);
     };
     if is_over(e) {

@@ -10,8 +10,8 @@ use process_move::found;
 use record_process::Process;
 use record_process::Status;
 use record_thread::Thread;
-use records::tables::FoundProcess;
-use records::tables::FoundThread;
+use record_process::FoundProcess;
+use record_thread::FoundThread;
 
 // 04: `Process::start`.
 pub fn start(process: u8, thread: u8, q: Process, v: Thread) -> Both
@@ -36,7 +36,7 @@ pub fn start(process: u8, thread: u8, q: Process, v: Thread) -> Both
         return pair(q, v, ZxError::ACCESS_DENIED);
     }
     let status = old.status;
-    if !process_status::is_init(status) {
+    if !status.is_init() {
         return pair(q, v, ZxError::BAD_STATE);
     }
     pair(old.with_status(Status::Running), w.start(), 0)

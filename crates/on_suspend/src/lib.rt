@@ -4,7 +4,7 @@ ghost use Rattle.model.specs.ThreadCalls.{suspendCall, resumeCall};
 ghost use Rattle.thread_move.specs.ThreadMove.{Moves};
 use error::Refusal;
 use record_thread::Thread;
-use records::tables::FoundThread;
+use record_thread::FoundThread;
 use thread_move::Move;
 use thread_move::answered;
 use thread_move::found;

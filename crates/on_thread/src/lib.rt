@@ -7,7 +7,7 @@ ghost use Rattle.thread_move.specs.ThreadMove.{Moves};
 use error::Refusal;
 use record_thread::Thread;
 use record_thread::Waiting;
-use records::tables::FoundThread;
+use record_thread::FoundThread;
 use reply::Fields;
 use thread_move::Move;
 use thread_move::answered;
@@ -52,7 +52,7 @@ pub fn exit(thread: u8, v: Thread) -> Move
     let FoundThread::OldThread(w) = found(v) else {
         return answered(v, Refusal::NOT_MADE);
     };
-    if !thread_state::is_free(w) {
+    if !w.is_free() {
         return answered(v, Refusal::OUT_OF_TURN);
     }
     answered(w.exit(), 0)
@@ -84,7 +84,7 @@ pub fn get_thread_info(thread: u8, v: Thread) -> Move
     };
     let waiting = w.waiting;
     let fields = Fields::ThreadFields {
-        state: thread_state::state(w),
+        state: w.state(),
         level: waiting_level(waiting),
         suspends: w.suspends,
     };

@@ -6,7 +6,7 @@ use error::Refusal;
 use error::ZxError;
 use record_exception::Level;
 use record_thread::Thread;
-use records::tables::FoundThread;
+use record_thread::FoundThread;
 use thread_move::Move;
 use thread_move::answered;
 use thread_move::found;

@@ -8,7 +8,7 @@ use error::ZxError;
 use record_thread::Thread;
 use record_thread::ThreadState;
 use record_thread::Waiting;
-use records::tables::FoundThread;
+use record_thread::FoundThread;
 use thread_move::Move;
 use thread_move::answered;
 use thread_move::found;
@@ -41,7 +41,7 @@ pub fn begin_wait(thread: u8, v: Thread, state: u16) -> Move
     let FoundThread::OldThread(w) = found(v) else {
         return answered(v, Refusal::NOT_MADE);
     };
-    if !thread_state::is_free(w) {
+    if !w.is_free() {
         return answered(v, Refusal::OUT_OF_TURN);
     }
     if w.state == ThreadState::DYING {
@@ -91,7 +91,7 @@ pub fn poll_wait(thread: u8, v: Thread, ready: u8) -> Move
     let FoundThread::OldThread(w) = found(v) else {
         return answered(v, Refusal::NOT_MADE);
     };
-    if !thread_state::is_in_wait(w) {
+    if !w.is_in_wait() {
         return answered(v, Refusal::OUT_OF_TURN);
     }
     if is_pending(w, ready) {

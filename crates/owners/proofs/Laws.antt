@@ -5,12 +5,12 @@ use Rattle.record_exception.specs.declared.Level.{Level}
 use Rattle.record_job.specs.declared.Job.{Job}
 use Rattle.record_process.specs.declared.Process.{Process}
 use Rattle.record_thread.specs.declared.Thread.{Thread}
-use Rattle.records.specs.declared.tables.FoundJob.{FoundJob}
-use Rattle.records.specs.declared.tables.FoundJob.the-variants.{NoJob, OldJob}
-use Rattle.records.specs.declared.tables.FoundProcess.{FoundProcess}
-use Rattle.records.specs.declared.tables.FoundProcess.the-variants.{NoProcess, OldProcess}
-use Rattle.records.specs.declared.tables.FoundThread.{FoundThread}
-use Rattle.records.specs.declared.tables.FoundThread.the-variants.{NoThread, OldThread}
+use Rattle.record_job.specs.declared.FoundJob.{FoundJob}
+use Rattle.record_job.specs.declared.FoundJob.the-variants.{NoJob, OldJob}
+use Rattle.record_process.specs.declared.FoundProcess.{FoundProcess}
+use Rattle.record_process.specs.declared.FoundProcess.the-variants.{NoProcess, OldProcess}
+use Rattle.record_thread.specs.declared.FoundThread.{FoundThread}
+use Rattle.record_thread.specs.declared.FoundThread.the-variants.{NoThread, OldThread}
 use Rattle.owners.specs.declared.FoundLevel.the-variants.{NoLevel, OldLevel}
 use Rattle.owners.specs.declared.FoundTask.the-variants.{NoTask, OldTask}
 use Rattle.owners.specs.Owners.{processLevel, jobLevel, levelOfThread, levelOfProcess}

@@ -9,12 +9,12 @@ use Rattle.record_process.specs.declared.Process.{Process}
 use Rattle.record_process.specs.Process.{withLevel1, withLevel3}
 use Rattle.record_thread.specs.Thread.{withLevel2}
 use Rattle.records.specs.declared.tables.Tables.{Tables}
-use Rattle.records.specs.declared.tables.FoundJob.{FoundJob}
-use Rattle.records.specs.declared.tables.FoundJob.the-variants.{NoJob, OldJob}
-use Rattle.records.specs.declared.tables.FoundProcess.{FoundProcess}
-use Rattle.records.specs.declared.tables.FoundProcess.the-variants.{NoProcess, OldProcess}
-use Rattle.records.specs.declared.tables.FoundThread.{FoundThread}
-use Rattle.records.specs.declared.tables.FoundThread.the-variants.{NoThread, OldThread}
+use Rattle.record_job.specs.declared.FoundJob.{FoundJob}
+use Rattle.record_job.specs.declared.FoundJob.the-variants.{NoJob, OldJob}
+use Rattle.record_process.specs.declared.FoundProcess.{FoundProcess}
+use Rattle.record_process.specs.declared.FoundProcess.the-variants.{NoProcess, OldProcess}
+use Rattle.record_thread.specs.declared.FoundThread.{FoundThread}
+use Rattle.record_thread.specs.declared.FoundThread.the-variants.{NoThread, OldThread}
 use Rattle.records.specs.Tables.{jobAt, processAt, threadAt, foundJob, foundProcess, foundThread}
 use Rattle.records.specs.Tables.{putJob, putProcess, putThread}
 use Rattle.owners.specs.declared.FoundLevel.{FoundLevel}

@@ -8,9 +8,9 @@ use reading::thread_at;
 use record_exception::Level;
 use record_job::Job;
 use record_process::Process;
-use records::tables::FoundJob;
-use records::tables::FoundProcess;
-use records::tables::FoundThread;
+use record_job::FoundJob;
+use record_process::FoundProcess;
+use record_thread::FoundThread;
 use records::tables::Tables;
 
 // -- Levels: 1 and 3 are a process's, 2 is a thread's, 4 and 5 are a job's ---------------------

@@ -16,7 +16,7 @@ use job_policy::PolicyAction;
 use job_policy::PolicyCondition;
 use reading::inherited_at;
 use reading::own_at;
-use records::tables::FoundJob;
+use record_job::FoundJob;
 use records::tables::Tables;
 use reply::Reply;
 

@@ -6,14 +6,14 @@ ghost use Rattle.model.specs.JobCalls.{withNewProcess, createProcess, exitProce
 ghost use Rattle.model.specs.ThreadCalls.{finishThreadCall};
 use error::Refusal;
 use error::ZxError;
-use job::exit_process;
-use job::finish_thread;
+use cascade::exit_process;
+use cascade::finish_thread;
 use job_lists::policy_of;
 use reading::process_at;
 use record_process::Process;
-use records::tables::FoundJob;
-use records::tables::FoundProcess;
-use records::tables::FoundThread;
+use record_job::FoundJob;
+use record_process::FoundProcess;
+use record_thread::FoundThread;
 use records::tables::Tables;
 use reply::Reply;
 
@@ -84,7 +84,7 @@ pub fn finish(t: Tables, thread: u8) -> Reply
     let FoundThread::OldThread(v) = lookup::thread(t, thread) else {
         return Reply::answered(t, Refusal::NOT_MADE);
     };
-    if !thread_state::is_free(v) {
+    if !v.is_free() {
         return Reply::answered(t, Refusal::OUT_OF_TURN);
     }
     Reply::answered(finish_thread(t, thread), 0)

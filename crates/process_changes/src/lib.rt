@@ -54,7 +54,7 @@ pub fn exit(t: Tables, process: u8, code: i64) -> Change
         return c;
     }
     let status = q.status;
-    if process_status::is_exited(status) {
+    if status.is_exited() {
         return c;
     }
     let exited = q.with_status(Status::Exited(code));
@@ -64,7 +64,7 @@ pub fn exit(t: Tables, process: u8, code: i64) -> Change
         return c.answered(0);
     }
     let critical = q.critical;
-    if process_status::is_bound(critical) {
+    if critical.is_bound() {
         return c;
     }
     if rows::job_in(jobs, q.job).killed {

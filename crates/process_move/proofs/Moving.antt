@@ -11,7 +11,7 @@ use lib.Seq.{set-getD}
 use Rattle.record_process.specs.declared.Process.{Process}
 use Rattle.record_process.specs.Process.{noProcess}
 use Rattle.records.specs.declared.tables.Tables.{Tables}
-use Rattle.records.specs.declared.tables.FoundProcess.{FoundProcess}
+use Rattle.record_process.specs.declared.FoundProcess.{FoundProcess}
 use Rattle.reply.specs.Reply.{reply, answered}
 use Rattle.records.specs.Tables.{processAt, putProcess, foundProcess, withProcesses}
 use Rattle.process_move.specs.declared.Move.{Move}

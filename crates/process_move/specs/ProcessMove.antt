@@ -9,8 +9,8 @@ use Rattle.job_policy.specs.declared.JobPolicy.{JobPolicy}
 use Rattle.record_job.specs.declared.Job.{Job}
 use Rattle.record_process.specs.declared.Process.{Process}
 use Rattle.records.specs.declared.tables.Tables.{Tables}
-use Rattle.records.specs.declared.tables.FoundProcess.{FoundProcess}
-use Rattle.records.specs.declared.tables.FoundProcess.the-variants.{NoProcess, OldProcess}
+use Rattle.record_process.specs.declared.FoundProcess.{FoundProcess}
+use Rattle.record_process.specs.declared.FoundProcess.the-variants.{NoProcess, OldProcess}
 use Rattle.reply.specs.declared.Fields.the-variants.{NoFields}
 use Rattle.reply.specs.declared.Reply.{Reply}
 use Rattle.reply.specs.Reply.{reply}

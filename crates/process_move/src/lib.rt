@@ -3,7 +3,7 @@
 ghost use mathlib.Core.Path.{_≡_};
 ghost use Rattle.process_move.specs.ProcessMove.{move, foundIn, moved};
 use record_process::Process;
-use records::tables::FoundProcess;
+use record_process::FoundProcess;
 use records::tables::Tables;
 use reply::Fields;
 use reply::Reply;

@@ -10,8 +10,8 @@ use job_lists::at_or_above;
 use reading::fixed_at;
 use reading::process_at;
 use reading::thread_at;
-use records::tables::FoundJob;
-use records::tables::FoundProcess;
+use record_job::FoundJob;
+use record_process::FoundProcess;
 use records::tables::Tables;
 use reply::Reply;
 
@@ -44,7 +44,7 @@ pub fn set_critical_at_job(t: Tables, process: u8, job: u8, flag: u8) -> Reply
         return Reply::answered(t, Refusal::NOT_MADE);
     };
     let critical = q.critical;
-    if process_status::is_bound(critical) {
+    if critical.is_bound() {
         return Reply::answered(t, ZxError::ALREADY_BOUND);
     }
     if !at_or_above(t, job, q.job) {

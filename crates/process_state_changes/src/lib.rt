@@ -54,7 +54,7 @@ pub fn set_critical_at_job(t: Tables, process: u8, job: u8, flag: u8) -> Change
         return c;
     }
     let critical = q.critical;
-    if process_status::is_bound(critical) {
+    if critical.is_bound() {
         return c;
     }
     if !at_or_above(jobs, job, q.job) {
@@ -77,7 +77,7 @@ pub fn finish(t: Tables, thread: u8) -> Change
     if !v.made {
         return c;
     }
-    if !thread_state::is_free(v) {
+    if !v.is_free() {
         return c;
     }
     let w = v.finish();

@@ -1,7 +1,7 @@
 -- The record of a job. Follows job.rs and the page of jobs.
 use Prim.Native.Nat.{ℕ}
 use mathlib.Core.Bool.{Bool, true, false}
-use Rattle.laws.specs.Choice.{_=?_, _and_}
+use Rattle.laws.specs.Choice.{_=?_, _and_, if_then_else_}
 use Rattle.job_policy.specs.Slack.{freshSlack}
 use Rattle.job_policy.specs.declared.TimerSlack.{TimerSlack}
 use Rattle.record_exception.specs.declared.Level.{Level}
@@ -9,6 +9,8 @@ use Rattle.record_exception.specs.declared.Level.the-variants.{Unbound, Shut}
 use Rattle.record_job.specs.declared.Parent.{Parent}
 use Rattle.record_job.specs.declared.Parent.the-variants.{Orphan, ChildOf}
 use Rattle.record_job.specs.declared.Job.{Job}
+use Rattle.record_job.specs.declared.FoundJob.{FoundJob}
+use Rattle.record_job.specs.declared.FoundJob.the-variants.{NoJob, OldJob}
 
 -- never made
 abbrev pub noJob : Job
@@ -125,3 +127,9 @@ isParent (ChildOf p) j = p =? j
 -- on the list of job j
 unfoldable pub childOf : Job → ℕ → Bool
 childOf v j = v .listed and isParent (v .parent) j
+
+-- ---- Looking up a name ---------------------------------------------------------------------
+
+-- a made job, or none
+unfoldable pub foundJobIn : Job → FoundJob
+foundJobIn v = if v .made then OldJob v else NoJob

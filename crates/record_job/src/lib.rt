@@ -1,5 +1,6 @@
 // record_job: the record of a job. Its policies stand in tables of their own, beside the jobs.
 ghost use mathlib.Core.Path.{_≡_};
+ghost use Rattle.record_job.specs.Job.{foundJobIn};
 ghost use Rattle.record_job.specs.Job.{noJob, rootJob, newJob, killed, terminated};
 ghost use Rattle.record_job.specs.Job.{withLevel4, withLevel5, isParent, childOf};
 use job_policy::TimerSlack;
@@ -22,6 +23,12 @@ pub struct Job {
     pub level4: Level,
     pub level5: Level,
     pub slack: TimerSlack,
+}
+
+// What the name of a job stands for: a record, or an absence.
+pub enum FoundJob {
+    NoJob,
+    OldJob(Job),
 }
 
 impl Parent {
@@ -155,5 +162,17 @@ impl Job {
             return parent.is(name);
         }
         false
+    }
+}
+
+impl Job {
+    // A made job, or none.
+    pub fn found(self) -> FoundJob
+        ensures { λ r. ⌜ r ≡ foundJobIn self ⌝ }
+    {
+        if self.made {
+            return FoundJob::OldJob(self);
+        }
+        FoundJob::NoJob
     }
 }

@@ -2,7 +2,7 @@
 use Prim.Native.Nat.{ℕ}
 use mathlib.Core.Bool.{Bool, true, false, not}
 use lib.IntN.{ℤ, pos}
-use Rattle.laws.specs.Choice.{_=?_, _and_, isZero, minus}
+use Rattle.laws.specs.Choice.{_=?_, _and_, isZero, minus, if_then_else_}
 use Rattle.record_exception.specs.declared.Level.{Level}
 use Rattle.record_exception.specs.declared.Level.the-variants.{Unbound, Shut}
 use Rattle.record_process.specs.declared.Status.{Status}
@@ -10,6 +10,8 @@ use Rattle.record_process.specs.declared.Status.the-variants.{Init, Runn
 use Rattle.record_process.specs.declared.Critical.{Critical}
 use Rattle.record_process.specs.declared.Critical.the-variants.{Free, To}
 use Rattle.record_process.specs.declared.Process.{Process}
+use Rattle.record_process.specs.declared.FoundProcess.{FoundProcess}
+use Rattle.record_process.specs.declared.FoundProcess.the-variants.{NoProcess, OldProcess}
 
 -- the code of a killed process, TASK_RETCODE_SYSCALL_KILL
 abbrev pub KILL-CODE : ℤ
@@ -142,3 +144,9 @@ withLevel3 q l =
 -- on the list of job j
 unfoldable pub memberOf : Process → ℕ → Bool
 memberOf q j = q .listed and (q .job =? j)
+
+-- ---- Looking up a name ---------------------------------------------------------------------
+
+-- a made process, or none
+unfoldable pub foundProcessIn : Process → FoundProcess
+foundProcessIn q = if q .made then OldProcess q else NoProcess

@@ -1,5 +1,7 @@
 // record_process: the record of a process. The policy fixed at its making stands in a table beside the processes.
 ghost use mathlib.Core.Path.{_≡_};
+ghost use Rattle.record_process.specs.Process.{isInit, isExited, isCritical, acts};
+ghost use Rattle.record_process.specs.Process.{foundProcessIn};
 ghost use Rattle.record_process.specs.Process.{noProcess, newProcess, codeOf, withStatus};
 ghost use Rattle.record_process.specs.Process.{ended, bindTo, withLevel1, withLevel3};
 ghost use Rattle.record_process.specs.Process.{memberOf};
@@ -31,6 +33,12 @@ pub struct Process {
     pub level3: Level,
 }
 
+// What the name of a process stands for: a record, or an absence.
+pub enum FoundProcess {
+    NoProcess,
+    OldProcess(Process),
+}
+
 impl Status {
     // The code, 0 unless Exited.
     pub fn code(self) -> i64
@@ -42,6 +50,45 @@ impl Status {
             Status::Exited(code) => code,
         }
     }
+
+    pub fn is_init(self) -> bool
+        ensures { λ r. ⌜ r ≡ isInit self ⌝ }
+    {
+        match self {
+            Status::Init => true,
+            Status::Running => false,
+            Status::Exited(_) => false,
+        }
+    }
+
+    pub fn is_exited(self) -> bool
+        ensures { λ r. ⌜ r ≡ isExited self ⌝ }
+    {
+        match self {
+            Status::Init => false,
+            Status::Running => false,
+            Status::Exited(_) => true,
+        }
+    }
+}
+
+impl Critical {
+    // Whether it is bound to a job.
+    pub fn is_bound(self) -> bool
+        ensures { λ r. ⌜ r ≡ isCritical self ⌝ }
+    {
+        match self {
+            Critical::Free => false,
+            Critical::To { job: _, nonzero: _ } => true,
+        }
+    }
+}
+
+// Whether a binding acts at the end of a process with this code.
+pub fn binding_acts(nonzero: bool, code: i64) -> bool
+    ensures { λ r. ⌜ r ≡ acts nonzero code ⌝ }
+{
+    if nonzero { code != 0 } else { true }
 }
 
 impl Process {
@@ -183,5 +230,17 @@ impl Process {
             return self.job == name;
         }
         false
+    }
+}
+
+impl Process {
+    // A made process, or none.
+    pub fn found(self) -> FoundProcess
+        ensures { λ r. ⌜ r ≡ foundProcessIn self ⌝ }
+    {
+        if self.made {
+            return FoundProcess::OldProcess(self);
+        }
+        FoundProcess::NoProcess
     }
 }

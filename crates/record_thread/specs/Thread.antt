@@ -16,6 +16,8 @@ use Rattle.record_thread.specs.declared.Signals.the-variants.{NoSignal, 
 use Rattle.record_thread.specs.declared.Signals.the-variants.{SuspendedSignal}
 use Rattle.record_thread.specs.declared.Signals.the-variants.{TerminatedSignal}
 use Rattle.record_thread.specs.declared.Thread.{Thread}
+use Rattle.record_thread.specs.declared.FoundThread.{FoundThread}
+use Rattle.record_thread.specs.declared.FoundThread.the-variants.{NoThread, OldThread}
 
 -- ---- States --------------------------------------------------------------------------------
 
@@ -242,3 +244,9 @@ withLevel2 v l =
       waiting = v .waiting;
       level2 = l;
     }
+
+-- ---- Looking up a name ---------------------------------------------------------------------
+
+-- a made thread, or none
+unfoldable pub foundThreadIn : Thread → FoundThread
+foundThreadIn v = if v .made then OldThread v else NoThread

@@ -1,10 +1,13 @@
 // record_thread: the record of a thread, and what a single call does to it. States are numbers, as in ThreadState.
 ghost use mathlib.Core.Path.{_≡_};
+ghost use Rattle.record_thread.specs.Thread.{foundThreadIn};
 ghost use Rattle.record_thread.specs.Thread.{noThread, newThread, threadOf};
 ghost use Rattle.record_thread.specs.Thread.{withoutException, start, kill, exit, finish};
 ghost use Rattle.record_thread.specs.Thread.{suspend, resume, waits, endWait, withLevel2};
 use record_exception::Exception;
 use record_exception::Level;
+
+mod state;
 
 // The numbers of ThreadState.
 pub struct ThreadState;
@@ -71,6 +74,12 @@ pub struct Thread {
     pub waiting: Waiting,
     // Exception channel: level 2 (thread).
     pub level2: Level,
+}
+
+// What the name of a thread stands for: a record, or an absence.
+pub enum FoundThread {
+    NoThread,
+    OldThread(Thread),
 }
 
 // An exception that a handler has, or none.
@@ -284,5 +293,17 @@ impl Thread {
             waiting: waiting,
             level2: level,
         }
+    }
+}
+
+impl Thread {
+    // A made thread, or none.
+    pub fn found(self) -> FoundThread
+        ensures { λ r. ⌜ r ≡ foundThreadIn self ⌝ }
+    {
+        if self.made {
+            return FoundThread::OldThread(self);
+        }
+        FoundThread::NoThread
     }
 }

@@ -1,5 +1,6 @@
 // record_token: the record of a suspend token: the task that it holds, by kind and name. A dropped one holds nothing.
 ghost use mathlib.Core.Path.{_≡_};
+ghost use Rattle.record_token.specs.SuspendToken.{foundTokenIn};
 ghost use Rattle.record_token.specs.SuspendToken.{noToken, newToken, drop};
 
 // The kinds of a task.
@@ -18,6 +19,12 @@ pub struct SuspendToken {
     pub held: bool,
     pub kind: u8,
     pub name: u8,
+}
+
+// What the name of a token stands for: a record, or an absence.
+pub enum FoundToken {
+    NoToken,
+    OldToken(SuspendToken),
 }
 
 impl SuspendToken {
@@ -53,5 +60,17 @@ impl SuspendToken {
         self.kind = Kind::JOB;
         self.name = 0;
         self
+    }
+}
+
+impl SuspendToken {
+    // A token that still holds its task, or none: a dropped one is not found.
+    pub fn found(self) -> FoundToken
+        ensures { λ r. ⌜ r ≡ foundTokenIn self ⌝ }
+    {
+        if self.held {
+            return FoundToken::OldToken(self);
+        }
+        FoundToken::NoToken
     }
 }

@@ -16,14 +16,14 @@ use Rattle.record_thread.specs.declared.Thread.{Thread}
 use Rattle.record_token.specs.SuspendToken.{noToken}
 use Rattle.record_token.specs.declared.SuspendToken.{SuspendToken}
 use Rattle.records.specs.declared.tables.Tables.{Tables}
-use Rattle.records.specs.declared.tables.FoundJob.{FoundJob}
-use Rattle.records.specs.declared.tables.FoundJob.the-variants.{NoJob, OldJob}
-use Rattle.records.specs.declared.tables.FoundProcess.{FoundProcess}
-use Rattle.records.specs.declared.tables.FoundProcess.the-variants.{NoProcess, OldProcess}
-use Rattle.records.specs.declared.tables.FoundThread.{FoundThread}
-use Rattle.records.specs.declared.tables.FoundThread.the-variants.{NoThread, OldThread}
-use Rattle.records.specs.declared.tables.FoundToken.{FoundToken}
-use Rattle.records.specs.declared.tables.FoundToken.the-variants.{NoToken, OldToken}
+use Rattle.record_job.specs.declared.FoundJob.{FoundJob}
+use Rattle.record_job.specs.declared.FoundJob.the-variants.{NoJob, OldJob}
+use Rattle.record_process.specs.declared.FoundProcess.{FoundProcess}
+use Rattle.record_process.specs.declared.FoundProcess.the-variants.{NoProcess, OldProcess}
+use Rattle.record_thread.specs.declared.FoundThread.{FoundThread}
+use Rattle.record_thread.specs.declared.FoundThread.the-variants.{NoThread, OldThread}
+use Rattle.record_token.specs.declared.FoundToken.{FoundToken}
+use Rattle.record_token.specs.declared.FoundToken.the-variants.{NoToken, OldToken}
 
 -- at the start the root alone is made
 unfoldable pub freshTables : Tables

@@ -20,28 +20,6 @@ pub struct Tables {
     pub tokens: [SuspendToken; 64],
 }
 
-// -- Looking up a name ---------------------------------------------------------------------
-
-pub enum FoundJob {
-    NoJob,
-    OldJob(Job),
-}
-
-pub enum FoundProcess {
-    NoProcess,
-    OldProcess(Process),
-}
-
-pub enum FoundThread {
-    NoThread,
-    OldThread(Thread),
-}
-
-pub enum FoundToken {
-    NoToken,
-    OldToken(SuspendToken),
-}
-
 // -- Storing -------------------------------------------------------------------------------
 
 impl Tables {

@@ -1,6 +1,6 @@
 // reply: what a call answers: a number, the fields that follow it, and the tables.
 ghost use mathlib.Core.Path.{_≡_};
-ghost use Rattle.reply.specs.Reply.{reply, answered};
+ghost use Rattle.reply.specs.Reply.{reply, answered, showing, shownAnswer, shownFields};
 use job_policy::JobPolicy;
 use records::tables::Tables;
 
@@ -36,6 +36,37 @@ pub struct Reply {
     pub tables: Tables,
 }
 
+// What a call that changes no record shows.
+pub struct Shown {
+    pub answer: i64,
+    pub fields: Fields,
+    pub policy: JobPolicy,
+}
+
+impl Shown {
+    // An answer with no field.
+    pub fn answered(answer: i64) -> Shown
+        ensures { λ r. ⌜ r ≡ shownAnswer answer ⌝ }
+    {
+        Shown {
+            answer: answer,
+            fields: Fields::NoFields,
+            policy: JobPolicy::none(),
+        }
+    }
+
+    // An accepted call with its fields.
+    pub fn fields(fields: Fields) -> Shown
+        ensures { λ r. ⌜ r ≡ shownFields fields ⌝ }
+    {
+        Shown {
+            answer: 0,
+            fields: fields,
+            policy: JobPolicy::none(),
+        }
+    }
+}
+
 impl Reply {
     // An answer with no field: each refusal, and each accepted call that shows nothing.
     pub fn answered(tables: Tables, answer: i64) -> Reply
@@ -57,6 +88,20 @@ impl Reply {
             answer: answer,
             fields: fields,
             policy: JobPolicy::none(),
+            tables: tables,
+        }
+    }
+
+    // The tables as they were, and what is shown.
+    pub fn showing(tables: Tables, s: Shown) -> Reply
+        ensures { λ r. ⌜ r ≡ showing tables s ⌝ }
+    {
+        let fields = s.fields;
+        let policy = s.policy;
+        Reply {
+            answer: s.answer,
+            fields: fields,
+            policy: policy,
             tables: tables,
         }
     }

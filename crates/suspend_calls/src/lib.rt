@@ -7,9 +7,9 @@ use owners::FoundTask;
 use record_token::Kind;
 use records::tables::Tables;
 use reply::Reply;
-use suspend_token::resume_task;
-use suspend_token::some_at;
-use suspend_token::suspend_task;
+use suspending::resume_task;
+use suspending::some_at;
+use suspending::suspend_task;
 
 // 1e: `Task::suspend`.
 pub fn suspend(t: Tables, kind: u8, name: u8) -> Reply

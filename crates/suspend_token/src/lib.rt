@@ -1,78 +1,243 @@
-// suspend_token: suspending and resuming a task, and tokens. Follows suspend_token.rs, and `suspend` and `resume` of
-// thread.rs and process.rs. Kind 1 is a process: each thread that it lists is concerned; kind 2 is a thread.
-ghost use mathlib.Core.List.{map};
+// suspend_token: suspending and resuming a task, and tokens, over the records that they name. Follows suspend_token.rs, and
+// `suspend` and `resume` of thread.rs and process.rs. Each call stands here once: its refusals in document 01's order, then
+// its effect. Kind 1 is a process, and each thread that it lists is concerned: `barred` says whether the count of one
+// stands in the way, and `each` that each is to be changed. specs/SuspendToken.antt says what is given means for the tables.
+ghost use mathlib.Core.Bool.{false};
 ghost use mathlib.Core.Path.{_≡_};
-ghost use Rattle.laws.specs.Lists.{any};
-ghost use Rattle.records.specs.Tables.{withThreads};
-ghost use Rattle.thread_lists.specs.Each.{hasCount, eachIn};
-ghost use Rattle.model.specs.SuspendToken.{someAt, suspendTask, resumeTask, createToken};
-ghost use Rattle.model.specs.SuspendToken.{dropToken};
-use reading::thread_at;
-use reading::token_at;
+ghost use Rattle.owners.specs.Owners.{tasksOf};
+ghost use Rattle.model.specs.ThreadCalls.{createTokenCall, dropTokenCall, suspendCall, resumeCall};
+ghost use Rattle.suspend_token.specs.SuspendToken.{foundTaskIn, someIn, task, token, suspendedIn, resumedIn};
+ghost use Rattle.suspend_token.specs.SuspendToken.{Suspends, Resumes, Creates, Drops, noneIn};
+use error::Refusal;
+use owners::FoundTask;
+use record_job::FoundJob;
+use record_job::Job;
+use record_process::FoundProcess;
+use record_process::Process;
+use record_thread::FoundThread;
+use record_thread::Thread;
+use record_token::FoundToken;
 use record_token::Kind;
 use record_token::SuspendToken;
-use records::tables::Tables;
-use thread_lists::Each;
 
-// Whether process p lists a thread with this suspend count.
-fn some_count(t: Tables, p: u8, count: u16) -> bool
-    ensures { λ r. ⌜ r ≡ any (hasCount p count) (t .threads) ⌝ }
+// -- Tasks: kind 0 is a job, 1 a process, 2 a thread -----------------------------------------------
+
+// How many names a kind has.
+fn tasks_of(kind: u8) -> u8
+    ensures { λ r. ⌜ r ≡ tasksOf kind ⌝ }
 {
-    let threads = t.threads;
-    thread_lists::some_count(threads, p, count)
+    if kind == Kind::JOB {
+        return 32;
+    }
+    if kind == Kind::PROCESS {
+        return 64;
+    }
+    128
 }
 
-// Each thread that process p lists is changed.
-fn each_thread(mut t: Tables, p: u8, each: u8) -> Tables
-    ensures { λ r. ⌜ r ≡ withThreads t (map (eachIn each p) (t .threads)) ⌝ }
+// Whether a task is made.
+fn found_task(kind: u8, v: Thread, q: Process, j: Job) -> FoundTask
+    ensures { λ r. ⌜ r ≡ foundTaskIn kind v q j ⌝ }
 {
-    let threads = t.threads;
-    let changed = thread_lists::each_thread(threads, p, each);
-    t.threads = changed;
-    t
+    if kind == Kind::JOB {
+        let FoundJob::OldJob(_) = j.found() else {
+            return FoundTask::NoTask;
+        };
+        return FoundTask::OldTask;
+    }
+    if kind == Kind::PROCESS {
+        let FoundProcess::OldProcess(_) = q.found() else {
+            return FoundTask::NoTask;
+        };
+        return FoundTask::OldTask;
+    }
+    let FoundThread::OldThread(_) = v.found() else {
+        return FoundTask::NoTask;
+    };
+    FoundTask::OldTask
 }
 
-// Whether a thread concerned has this suspend count.
-pub fn some_at(t: Tables, kind: u8, name: u8, count: u16) -> bool
-    ensures { λ r. ⌜ r ≡ someAt t kind name count ⌝ }
+// Whether a thread concerned has this count.
+fn some_at(kind: u8, v: Thread, barred: bool, count: u16) -> bool
+    ensures { λ r. ⌜ r ≡ someIn kind v barred count ⌝ }
 {
     if kind == Kind::PROCESS {
-        return some_count(t, name, count);
+        return barred;
     }
-    thread_at(t, name).suspends == count
+    v.suspends == count
 }
 
-// `Task::suspend`.
-pub fn suspend_task(t: Tables, kind: u8, name: u8) -> Tables
-    ensures { λ r. ⌜ r ≡ suspendTask t kind name ⌝ }
-{
-    if kind == Kind::PROCESS {
-        return each_thread(t, name, Each::SUSPEND);
+// -- Suspending and resuming -------------------------------------------------------------------
+
+// What 1e and 1f come to: the answer, whether each thread of a process is changed, and the thread after it.
+pub struct Task {
+    pub answer: i64,
+    pub each: bool,
+    pub thread: Thread,
+}
+
+impl Task {
+    fn new(v: Thread, answer: i64, each: bool) -> Task
+        ensures { λ r. ⌜ r ≡ task v answer each ⌝ }
+    {
+        Task {
+            answer: answer,
+            each: each,
+            thread: v,
+        }
     }
-    t.with_thread(name, thread_at(t, name).suspend())
-}
 
-// `Task::resume`.
-pub fn resume_task(t: Tables, kind: u8, name: u8) -> Tables
-    ensures { λ r. ⌜ r ≡ resumeTask t kind name ⌝ }
-{
-    if kind == Kind::PROCESS {
-        return each_thread(t, name, Each::RESUME);
+    fn suspended(kind: u8, v: Thread) -> Task
+        ensures { λ r. ⌜ r ≡ suspendedIn kind v ⌝ }
+    {
+        if kind == Kind::PROCESS {
+            return Task::new(v, 0, true);
+        }
+        Task::new(v.suspend(), 0, false)
     }
-    t.with_thread(name, thread_at(t, name).resume())
+
+    fn resumed(kind: u8, v: Thread) -> Task
+        ensures { λ r. ⌜ r ≡ resumedIn kind v ⌝ }
+    {
+        if kind == Kind::PROCESS {
+            return Task::new(v, 0, true);
+        }
+        Task::new(v.resume(), 0, false)
+    }
 }
 
-// Making a token suspends its task.
-pub fn create_token(t: Tables, token: u8, kind: u8, name: u8) -> Tables
-    ensures { λ r. ⌜ r ≡ createToken t token kind name ⌝ }
+// 1e: `Task::suspend`. A job can't be suspended: the Rust panics.
+pub fn suspend(kind: u8, name: u8, v: Thread, q: Process, j: Job, barred: bool) -> Task
+    ensures { λ r. ⌜ Suspends (λ t. suspendCall t kind name) kind name v q j barred r ⌝ }
 {
-    suspend_task(t, kind, name).with_token(token, SuspendToken::new(kind, name))
+    if 2 < kind {
+        return Task::new(v, Refusal::BAD_FIELD, false);
+    }
+    if tasks_of(kind) <= name {
+        return Task::new(v, Refusal::PAST_TABLE, false);
+    }
+    let FoundTask::OldTask = found_task(kind, v, q, j) else {
+        return Task::new(v, Refusal::NOT_MADE, false);
+    };
+    if kind == Kind::JOB {
+        return Task::new(v, Refusal::PANICS, false);
+    }
+    if some_at(kind, v, barred, 65535) {
+        return Task::new(v, Refusal::FULL, false);
+    }
+    Task::suspended(kind, v)
 }
 
-// Dropping a token resumes its task.
-pub fn drop_token(t: Tables, token: u8, kind: u8, name: u8) -> Tables
-    ensures { λ r. ⌜ r ≡ dropToken t token kind name ⌝ }
+// 1f: `Task::resume`.
+pub fn resume(kind: u8, name: u8, v: Thread, q: Process, j: Job, barred: bool) -> Task
+    ensures { λ r. ⌜ Resumes (λ t. resumeCall t kind name) kind name v q j barred r ⌝ }
 {
-    let dropped = token_at(t, token).drop();
-    resume_task(t, kind, name).with_token(token, dropped)
+    if 2 < kind {
+        return Task::new(v, Refusal::BAD_FIELD, false);
+    }
+    if tasks_of(kind) <= name {
+        return Task::new(v, Refusal::PAST_TABLE, false);
+    }
+    let FoundTask::OldTask = found_task(kind, v, q, j) else {
+        return Task::new(v, Refusal::NOT_MADE, false);
+    };
+    if kind == Kind::JOB {
+        return Task::new(v, Refusal::PANICS, false);
+    }
+    if some_at(kind, v, barred, 0) {
+        return Task::new(v, Refusal::PANICS, false);
+    }
+    Task::resumed(kind, v)
+}
+
+// -- Tokens ----------------------------------------------------------------------------------
+
+// What 0d and 0e come to: the same, and the token after it.
+pub struct Token {
+    pub task: Task,
+    pub token: SuspendToken,
+}
+
+impl Token {
+    pub fn new(k: SuspendToken, m: Task) -> Token
+        ensures { λ r. ⌜ r ≡ token k m ⌝ }
+    {
+        Token {
+            task: m,
+            token: k,
+        }
+    }
+
+    fn refused(k: SuspendToken, v: Thread, answer: i64) -> Token
+        ensures { λ r. ⌜ r ≡ token k (task v answer false) ⌝ }
+    {
+        Token::new(k, Task::new(v, answer, false))
+    }
+}
+
+// 0d: `SuspendToken::create`; k is the record of the new name. Making a token suspends its task.
+pub fn create(
+    new: u8,
+    kind: u8,
+    name: u8,
+    k: SuspendToken,
+    v: Thread,
+    q: Process,
+    j: Job,
+    barred: bool,
+) -> Token
+    ensures { λ r. ⌜ Creates (λ t. createTokenCall t new kind name) new kind name k v q j barred r ⌝ }
+{
+    if 2 < kind {
+        return Token::refused(k, v, Refusal::BAD_FIELD);
+    }
+    if 64 <= new {
+        return Token::refused(k, v, Refusal::PAST_TABLE);
+    }
+    if tasks_of(kind) <= name {
+        return Token::refused(k, v, Refusal::PAST_TABLE);
+    }
+    let FoundTask::OldTask = found_task(kind, v, q, j) else {
+        return Token::refused(k, v, Refusal::NOT_MADE);
+    };
+    if k.made {
+        return Token::refused(k, v, Refusal::USED);
+    }
+    if kind == Kind::JOB {
+        return Token::refused(k, v, Refusal::PANICS);
+    }
+    if some_at(kind, v, barred, 65535) {
+        return Token::refused(k, v, Refusal::FULL);
+    }
+    Token::new(SuspendToken::new(kind, name), Task::suspended(kind, v))
+}
+
+// Whether a thread concerned has no suspension; a name past the table has none.
+fn none_at(k: SuspendToken, v: Thread, barred: bool) -> bool
+    ensures { λ r. ⌜ r ≡ noneIn k v barred ⌝ }
+{
+    if k.kind == Kind::PROCESS {
+        return barred;
+    }
+    if 128 <= k.name {
+        return true;
+    }
+    v.suspends == 0
+}
+
+// 0e: a token dropped; v is the thread of the name that it holds. Where a thread concerned has 0, all counts and the token
+// stay.
+pub fn drop(token: u8, k: SuspendToken, v: Thread, barred: bool) -> Token
+    ensures { λ r. ⌜ Drops (λ t. dropTokenCall t token) token k v barred r ⌝ }
+{
+    if 64 <= token {
+        return Token::refused(k, v, Refusal::PAST_TABLE);
+    }
+    let FoundToken::OldToken(w) = k.found() else {
+        return Token::refused(k, v, Refusal::NOT_MADE);
+    };
+    if none_at(w, v, barred) {
+        return Token::refused(k, v, Refusal::PANICS);
+    }
+    Token::new(w.drop(), Task::resumed(w.kind, v))
 }

@@ -2,9 +2,9 @@
 ghost use mathlib.Core.Path.{_≡_};
 ghost use Rattle.owners.specs.Owners.{tasksOf, foundTask};
 use owners::FoundTask;
-use records::tables::FoundJob;
-use records::tables::FoundProcess;
-use records::tables::FoundThread;
+use record_job::FoundJob;
+use record_process::FoundProcess;
+use record_thread::FoundThread;
 use records::tables::Tables;
 
 // How many names a kind has.

@@ -4,7 +4,7 @@ ghost use mathlib.Core.List.{map};
 ghost use mathlib.Core.Path.{_≡_};
 ghost use Rattle.laws.specs.Lists.{any};
 ghost use Rattle.record_thread.specs.Thread.{threadOf};
-ghost use Rattle.thread_lists.specs.Each.{hasCount, oneOf, eachIn};
+ghost use Rattle.thread_lists.specs.Each.{hasCount, oneOf, eachIn, bars, changed, eachUnless};
 use record_thread::Thread;
 
 // -- Tests ---------------------------------------------------------------------------------
@@ -95,4 +95,60 @@ pub fn each_thread(mut threads: [Thread; 128], p: u8, each: u8) -> [Thread; 128]
         i += 1;
     }
     threads
+}
+
+// Whether a thread's count bars the change: a full one a suspension, 0 a resumption. Nothing bars a kill.
+fn bars(v: Thread, each: u8) -> bool
+    ensures { λ r. ⌜ r ≡ bars each v ⌝ }
+{
+    if each == Each::SUSPEND {
+        return v.suspends == 65535;
+    }
+    if each == Each::RESUME {
+        return v.suspends == 0;
+    }
+    false
+}
+
+// The threads after a change of each that a process lists, as far as it came.
+pub struct Changed {
+    // One bars the change: those from it on are as they were.
+    pub barred: bool,
+    // Whether the process was seen to list a thread.
+    pub some: bool,
+    pub threads: [Thread; 128],
+}
+
+impl Changed {
+    fn new(barred: bool, some: bool, threads: [Thread; 128]) -> Changed
+        ensures { λ r. ⌜ r ≡ changed barred some threads ⌝ }
+    {
+        Changed {
+            barred: barred,
+            some: some,
+            threads: threads,
+        }
+    }
+}
+
+// Every thread that process p lists is changed, up to one that bars it.
+pub fn each_unless(mut threads: [Thread; 128], p: u8, each: u8) -> Changed
+    ensures { λ r. ⌜ r ≡ eachUnless each p threads ⌝ }
+{
+    let mut some = false;
+    let mut i: usize = 0;
+    while i < 128 {
+        let v = threads[i];
+        if v.thread_of(p) {
+            if bars(v, each) {
+                return Changed::new(true, true, threads);
+            }
+            threads[i] = one_of(v, each);
+            some = true;
+            i += 1;
+        } else {
+            i += 1;
+        }
+    }
+    Changed::new(false, some, threads)
 }

@@ -17,7 +17,7 @@ use Rattle.laws.specs.Guarded.{Guarded, guard, _>>_, settle}
 use Rattle.record_thread.specs.declared.Thread.{Thread}
 use Rattle.record_thread.specs.Thread.{noThread}
 use Rattle.records.specs.declared.tables.Tables.{Tables}
-use Rattle.records.specs.declared.tables.FoundThread.{FoundThread}
+use Rattle.record_thread.specs.declared.FoundThread.{FoundThread}
 use Rattle.reply.specs.declared.Fields.{Fields}
 use Rattle.reply.specs.declared.Reply.{Reply}
 use Rattle.reply.specs.Reply.{reply, answered}

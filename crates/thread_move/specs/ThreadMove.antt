@@ -7,8 +7,8 @@ use lib.IntN.{ℤ}
 use Rattle.laws.specs.Choice.{if_then_else_}
 use Rattle.record_thread.specs.declared.Thread.{Thread}
 use Rattle.records.specs.declared.tables.Tables.{Tables}
-use Rattle.records.specs.declared.tables.FoundThread.{FoundThread}
-use Rattle.records.specs.declared.tables.FoundThread.the-variants.{NoThread, OldThread}
+use Rattle.record_thread.specs.declared.FoundThread.{FoundThread}
+use Rattle.record_thread.specs.declared.FoundThread.the-variants.{NoThread, OldThread}
 use Rattle.reply.specs.declared.Fields.{Fields}
 use Rattle.reply.specs.declared.Fields.the-variants.{NoFields}
 use Rattle.reply.specs.declared.Reply.{Reply}

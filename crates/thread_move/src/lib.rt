@@ -3,7 +3,7 @@
 ghost use mathlib.Core.Path.{_≡_};
 ghost use Rattle.thread_move.specs.ThreadMove.{move, foundIn, moved};
 use record_thread::Thread;
-use records::tables::FoundThread;
+use record_thread::FoundThread;
 use records::tables::Tables;
 use reply::Fields;
 use reply::Reply;

@@ -6,12 +6,12 @@ use error::Refusal;
 use owners::FoundTask;
 use reading::token_at;
 use record_token::Kind;
-use records::tables::FoundToken;
+use record_token::FoundToken;
 use records::tables::Tables;
 use reply::Reply;
-use suspend_token::create_token;
-use suspend_token::drop_token;
-use suspend_token::some_at;
+use suspending::create_token;
+use suspending::drop_token;
+use suspending::some_at;
 
 // 0d: `SuspendToken::create`.
 pub fn create(t: Tables, new: u8, kind: u8, name: u8) -> Reply

@@ -18,9 +18,9 @@ use Rattle.record_thread.specs.declared.Thread.{Thread}
 use Rattle.record_thread.specs.Thread.{FULL, suspend}
 use Rattle.record_token.specs.SuspendToken.{newToken}
 use Rattle.records.specs.declared.tables.Tables.{Tables}
-use Rattle.records.specs.declared.tables.FoundJob.the-variants.{NoJob, OldJob}
-use Rattle.records.specs.declared.tables.FoundProcess.the-variants.{NoProcess, OldProcess}
-use Rattle.records.specs.declared.tables.FoundThread.the-variants.{NoThread, OldThread}
+use Rattle.record_job.specs.declared.FoundJob.the-variants.{NoJob, OldJob}
+use Rattle.record_process.specs.declared.FoundProcess.the-variants.{NoProcess, OldProcess}
+use Rattle.record_thread.specs.declared.FoundThread.the-variants.{NoThread, OldThread}
 use Rattle.reply.specs.declared.Reply.{Reply}
 use Rattle.reply.specs.Reply.{answered}
 use Rattle.records.specs.Tables.{jobAt, processAt, threadAt, tokenAt}
@@ -36,7 +36,7 @@ use Rattle.change.specs.declared.Change.{Change}
 use Rattle.change.specs.Change as defs
 use Rattle.change.proofs.Storing.{job-read, process-read, thread-read, token-read}
 use Rattle.token_changes.specs.TokenChanges.{taskMade}
-use Rattle.suspend_token.proofs.Each.{one-suspends}
+use Rattle.suspending.proofs.Each.{one-suspends}
 use Rattle.token_changes.proofs.Threads.{some-of-process, process-stored, some-of-thread}
 use Rattle.token_changes.proofs.Threads.{thread-stored}
 

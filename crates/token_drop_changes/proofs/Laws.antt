@@ -14,7 +14,7 @@ use Rattle.record_thread.specs.Thread.{resume}
 use Rattle.record_token.specs.declared.SuspendToken.{SuspendToken}
 use Rattle.record_token.specs.SuspendToken.{drop}
 use Rattle.records.specs.declared.tables.Tables.{Tables}
-use Rattle.records.specs.declared.tables.FoundToken.the-variants.{NoToken, OldToken}
+use Rattle.record_token.specs.declared.FoundToken.the-variants.{NoToken, OldToken}
 use Rattle.reply.specs.declared.Reply.{Reply}
 use Rattle.reply.specs.Reply.{answered}
 use Rattle.records.specs.Tables.{tokenAt, putToken, foundToken}
@@ -25,7 +25,7 @@ use Rattle.model.proofs.Answering.{answering, refuses, accepts, the-token, no-t
 use Rattle.change.specs.declared.Change.{Change}
 use Rattle.change.specs.Change as defs
 use Rattle.change.proofs.Storing.{token-read}
-use Rattle.suspend_token.proofs.Each.{one-resumes}
+use Rattle.suspending.proofs.Each.{one-resumes}
 use Rattle.token_changes.proofs.Threads.{some-of-process, process-stored, some-of-thread, thread-stored}
 
 -- o has the token read, c the thread that it names

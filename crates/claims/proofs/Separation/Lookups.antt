@@ -13,10 +13,10 @@ use Rattle.record_process.specs.declared.Process.{Process}
 use Rattle.record_thread.specs.declared.Thread.{Thread}
 use Rattle.record_token.specs.declared.SuspendToken.{SuspendToken}
 use Rattle.records.specs.declared.tables.Tables.{Tables}
-use Rattle.records.specs.declared.tables.FoundJob.the-variants.{NoJob, OldJob}
-use Rattle.records.specs.declared.tables.FoundProcess.the-variants.{NoProcess, OldProcess}
-use Rattle.records.specs.declared.tables.FoundThread.the-variants.{NoThread, OldThread}
-use Rattle.records.specs.declared.tables.FoundToken.the-variants.{NoToken, OldToken}
+use Rattle.record_job.specs.declared.FoundJob.the-variants.{NoJob, OldJob}
+use Rattle.record_process.specs.declared.FoundProcess.the-variants.{NoProcess, OldProcess}
+use Rattle.record_thread.specs.declared.FoundThread.the-variants.{NoThread, OldThread}
+use Rattle.record_token.specs.declared.FoundToken.the-variants.{NoToken, OldToken}
 use Rattle.records.specs.Tables.{foundJob, foundProcess, foundThread, foundToken}
 use Rattle.model.specs.Replies.{oldJob, oldProcess, oldThread, oldToken, job, process}
 use Rattle.model.specs.Replies.{thread, token}

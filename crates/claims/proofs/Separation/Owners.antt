@@ -14,9 +14,9 @@ use Rattle.record_process.specs.Process.{withLevel1, withLevel3}
 use Rattle.record_thread.specs.declared.Thread.{Thread}
 use Rattle.record_thread.specs.Thread.{noThread, threadOf, withLevel2}
 use Rattle.records.specs.declared.tables.Tables.{Tables}
-use Rattle.records.specs.declared.tables.FoundJob.the-variants.{NoJob, OldJob}
-use Rattle.records.specs.declared.tables.FoundProcess.the-variants.{NoProcess, OldProcess}
-use Rattle.records.specs.declared.tables.FoundThread.the-variants.{NoThread, OldThread}
+use Rattle.record_job.specs.declared.FoundJob.the-variants.{NoJob, OldJob}
+use Rattle.record_process.specs.declared.FoundProcess.the-variants.{NoProcess, OldProcess}
+use Rattle.record_thread.specs.declared.FoundThread.the-variants.{NoThread, OldThread}
 use Rattle.records.specs.Tables.{jobAt, processAt, threadAt, putJob, foundJob, foundProcess}
 use Rattle.records.specs.Tables.{foundThread}
 use Rattle.owners.specs.Owners.{ownersOf, tasksOf, levelOfJob, levelOfProcess, levelOfThread}

@@ -1,6 +1,7 @@
 use native.Mathlib.Omega.{arith}
 use borrow.Author.Needs.{needs}
-use Rattle.lines.proofs.Puts.{no-room, with-room}
+use Rattle.lines.specs.Line.{stopLine}
+use Rattle.lines.proofs.Puts.{put-then, no-room, with-room}
 use Rattle.lines.proofs.put_stop.Statement.{statement}
 use Rattle.lines.proofs.put_stop.Tie as tie
 
@@ -11,9 +12,12 @@ returns-2 : tie.Need-returns-2
 returns-2 c = (no-room _ _ _ (c .if2 .taken), omega arith)
 
 returns-3 : tie.Need-returns-3
+unfolding stopLine
 returns-3 c =
-    let p = c .before .before in
-    (with-room (p .before .before .if2 .left) (p .stop-at .ensures .0), p .stop-at .ensures .1)
+    let t = c .before .before in
+    let d = t .before .before .before .before .before in
+    let line = put-then (d .put-number .ensures .0) (t .put-text .ensures) in
+    (with-room (d .before .before .if2 .left) line, omega arith)
 
 pub put-stop-spec : {M : Type 1} → statement M
 put-stop-spec =
@@ -22,6 +26,8 @@ put-stop-spec =
     returns
     (λ c. search needs)
     returns-2
+    (λ c κs. search needs)
+    (λ c. search needs)
     (λ c κs. search needs)
     (λ c. search needs)
     returns-3)

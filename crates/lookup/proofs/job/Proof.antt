@@ -1,7 +1,7 @@
 use mathlib.Core.Path.{ap, refl}
 use Rattle.laws.proofs.Flow.{first, second, told}
 use Rattle.record_job.specs.declared.Job.{Job}
-use Rattle.records.specs.declared.tables.FoundJob.the-variants.{OldJob}
+use Rattle.record_job.specs.declared.FoundJob.the-variants.{OldJob}
 use Rattle.records.specs.Tables.{foundJob}
 use borrow.Author.Needs.{needs}
 use Rattle.lookup.proofs.job.Statement.{statement}

@@ -1,7 +1,7 @@
 use mathlib.Core.Path.{ap, refl}
 use Rattle.laws.proofs.Flow.{first, second, told}
 use Rattle.record_process.specs.declared.Process.{Process}
-use Rattle.records.specs.declared.tables.FoundProcess.the-variants.{OldProcess}
+use Rattle.record_process.specs.declared.FoundProcess.the-variants.{OldProcess}
 use Rattle.records.specs.Tables.{foundProcess}
 use borrow.Author.Needs.{needs}
 use Rattle.lookup.proofs.process.Statement.{statement}

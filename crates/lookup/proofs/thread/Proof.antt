@@ -1,7 +1,7 @@
 use mathlib.Core.Path.{ap, refl}
 use Rattle.laws.proofs.Flow.{first, second, told}
 use Rattle.record_thread.specs.declared.Thread.{Thread}
-use Rattle.records.specs.declared.tables.FoundThread.the-variants.{OldThread}
+use Rattle.record_thread.specs.declared.FoundThread.the-variants.{OldThread}
 use Rattle.records.specs.Tables.{foundThread}
 use borrow.Author.Needs.{needs}
 use Rattle.lookup.proofs.thread.Statement.{statement}

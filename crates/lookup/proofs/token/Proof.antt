@@ -1,7 +1,7 @@
 use mathlib.Core.Path.{ap, refl}
 use Rattle.laws.proofs.Flow.{first, second, told}
 use Rattle.record_token.specs.declared.SuspendToken.{SuspendToken}
-use Rattle.records.specs.declared.tables.FoundToken.the-variants.{OldToken}
+use Rattle.record_token.specs.declared.FoundToken.the-variants.{OldToken}
 use Rattle.records.specs.Tables.{foundToken}
 use borrow.Author.Needs.{needs}
 use Rattle.lookup.proofs.token.Statement.{statement}

@@ -1,0 +1,3 @@
+pub mod Alone
+pub mod Above
+pub mod Next

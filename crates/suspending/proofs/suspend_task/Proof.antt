@@ -1,0 +1,23 @@
+use Rattle.laws.proofs.Flow.{branches}
+use Rattle.model.specs.SuspendToken.{changeTask, suspendTask}
+use Rattle.suspending.proofs.Each.{one-suspends, changed-by}
+use borrow.Author.Needs.{needs}
+use Rattle.suspending.proofs.suspend_task.Statement.{statement}
+use Rattle.suspending.proofs.suspend_task.Tie as tie
+
+pub suspend-task-spec : {M : Type 1} → statement M
+unfolding suspendTask changeTask
+suspend-task-spec =
+    tie.close
+    (tie.spec
+    (λ c κs. search needs)
+    (λ c.
+    let a = c .before .before .args in
+    let e = changed-by (a .t) (one-suspends (a .name)) (c .each-thread .ensures) in
+    search (branches, e))
+    (λ c κs. search needs)
+    (λ c κs. search needs)
+    (λ c κs. search needs)
+    (λ c.
+    let e = simp (c .before .suspend .ensures, c .before .before .thread-at .ensures) at (c .with-thread .ensures) in
+    search (branches, e)))
