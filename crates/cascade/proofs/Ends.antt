@@ -1,12 +1,13 @@
 -- A process that exits, over the tables in place.
 --     stops-listed, ends-listed    its threads are killed, or it ends
---     ends-alone                   its end stays with its record
+--     ends-alone, ends-here        its end stays with its record
 -- Assumes nothing.
-use Prim.Native.Nat.{ℕ}
+use Prim.Native.Nat.{ℕ, _%_}
 use mathlib.Core.Path.{_≡_, refl, sym, ap, _∙_}
 use mathlib.Core.Bool.{Bool, true, false, not}
 use mathlib.Core.List.{List, [], _∷_}
-use Rattle.laws.specs.Choice.{_and_, _or_, if_then_else_}
+use borrow.Author.Tests.{leb-false}
+use Rattle.laws.specs.Choice.{_≤?_, _and_, _or_, if_then_else_}
 use Rattle.laws.specs.Lists.{any}
 use Rattle.laws.proofs.Cases.{by, no-both}
 use Rattle.laws.proofs.Flow.{and-stops, yes, no}
@@ -21,10 +22,11 @@ use Rattle.thread_lists.specs.Each.{KILL, oneOf, eachIn, bars, eachUnless}
 use Rattle.thread_lists.proofs.Unless.{changed-is, some-is}
 use Rattle.records.specs.declared.tables.Tables.{Tables}
 use Rattle.records.specs.Tables.{jobAt, processAt, putProcess, withThreads}
+use Rattle.records.proofs.Kept.{job-at}
 use Rattle.model.specs.Job.{mayTerminate, listsThread, stopIn, stopThreads, killJob, exitListed, endProcess}
 use Rattle.model.proofs.Steps.{end-free}
 use Rattle.model.proofs.Upward.{unlist-stays}
-use Rattle.cascade.specs.Ends.{endsAlone}
+use Rattle.cascade.specs.Ends.{endsAlone, endsHere}
 
 -- ---- Its threads -----------------------------------------------------------------------------------
 
@@ -73,3 +75,12 @@ ends-alone t p {q} {j} h g e =
     let k = ap (λ (w : Job). w .killed) g ∙ b in
     end-free t p q u (sym h) (unlist-stays t p q (ended q) u (sym h) refl refl (lives-on t (q .job) p (ended q) k))
     (unbound (q .critical) a)))
+
+-- the same of a process marked Exited, whose job is looked up by its place
+pub ends-here : (t : Tables) (p : ℕ) {q : Process} {j : Job} → processAt t p ≡ q → jobAt t (q .job % 32) ≡ j →
+    endsHere p q j (t .threads) ≡ true → putProcess t p (ended q) ≡ exitListed killJob t p
+unfolding endsHere if_then_else_ exitListed endProcess listsThread
+ends-here t p {q} {j} h g e =
+    by (any (λ v. threadOf v p) (t .threads)) (λ a. no-both (rw a at e) refl)
+    (λ a. by (32 ≤? q .job) (λ b. no-both (rw (a, b) at e) refl)
+    (λ b. ends-alone t p h (job-at t (q .job) (leb-false 32 (q .job) b) g) (rw (a, b) at e) ∙ no _ _ a refl))

@@ -7,7 +7,7 @@ ghost use Rattle.record_process.specs.Process.{memberOf};
 ghost use Rattle.lists.specs.Next.{next};
 ghost use Rattle.model.specs.Job.{isLiveJob, isLiveProcess, killJob, exitProcess, endProcess};
 ghost use Rattle.model.specs.Job.{listsThread, stopThreads, exitListed, removeThread, finishThread};
-ghost use Rattle.cascade.specs.Ends.{endsAlone};
+ghost use Rattle.cascade.specs.Ends.{endsAlone, endsHere};
 use reading::job_at;
 use reading::process_at;
 use reading::thread_at;
@@ -15,6 +15,7 @@ use record_job::Job;
 use record_process::Critical;
 use record_process::Process;
 use record_process::Status;
+use record_thread::Thread;
 use records::tables::Tables;
 use thread_lists::Each;
 
@@ -140,7 +141,7 @@ pub fn end_process(mut t: Tables, p: u8) -> Tables
 }
 
 // Whether the end of a process stays with its record; j is its job. It is bound to none, and no job terminates with it.
-pub fn ends_alone(q: Process, j: Job) -> bool
+fn ends_alone(q: Process, j: Job) -> bool
     ensures { λ r. ⌜ r ≡ endsAlone q j ⌝ }
 {
     let critical = q.critical;
@@ -148,6 +149,19 @@ pub fn ends_alone(q: Process, j: Job) -> bool
         Critical::Free => !j.killed,
         Critical::To { job: _, nonzero: _ } => false,
     }
+}
+
+// The same of process p that is marked Exited, over the threads: it ends at once if it lists none.
+pub fn ends_here(p: u8, q: Process, j: Job, threads: [Thread; 128]) -> bool
+    ensures { λ r. ⌜ r ≡ endsHere p q j threads ⌝ }
+{
+    if thread_lists::lists_thread(threads, p) {
+        return false;
+    }
+    if 32 <= q.job {
+        return false;
+    }
+    ends_alone(q, j)
 }
 
 // -- Threads -------------------------------------------------------------------------------

@@ -35,6 +35,16 @@ pairAt bs i = record { condition = byte bs i; action = byte bs (i + 1) }
 abbrev pub pairsAt : List ℕ → List BasicPolicy
 pairsAt bs = pairAt bs 4 ∷ pairAt bs 6 ∷ pairAt bs 8 ∷ pairAt bs 10 ∷ []
 
+-- an entry that no command has
+abbrev pub noPair : BasicPolicy
+noPair = record { condition = 0; action = 0 }
+
+-- the four, and eleven more, so that they are as many as there are conditions
+abbrev pub fifteenAt : List ℕ → List BasicPolicy
+fifteenAt bs =
+    pairAt bs 4 ∷ pairAt bs 6 ∷ pairAt bs 8 ∷ pairAt bs 10 ∷ noPair ∷ noPair ∷ noPair ∷ noPair ∷ noPair ∷ noPair ∷
+    noPair ∷ noPair ∷ noPair ∷ noPair ∷ noPair ∷ []
+
 -- the bytes of each command, 00 to 1f; 0 for no command
 abbrev pub sizes : List ℕ
 sizes =

@@ -1,7 +1,7 @@
 // commands: the bytes of the recorder's commands: how many each has, and its operands, little-endian.
 // Past the end of its bytes a command has zeros: no reader relies on its caller.
 ghost use mathlib.Core.Path.{_≡_};
-ghost use Rattle.commands.specs.Commands.{byte, half, word, long, signed64, pairAt, pairsAt};
+ghost use Rattle.commands.specs.Commands.{byte, half, word, long, signed64, pairAt, pairsAt, fifteenAt};
 ghost use Rattle.commands.specs.Commands.{sizeOf, nextOf};
 use job_policy::BasicPolicy;
 
@@ -74,6 +74,22 @@ fn pair_at(s: &[u8], i: u8) -> BasicPolicy
     }
 }
 
+// The four pairs of 0f, from byte 4, and eleven entries that no command has.
+pub fn fifteen_at(s: &[u8]) -> [BasicPolicy; 15]
+    ensures { λ r. ⌜ r ≡ fifteenAt (now (s .entry)) ⌝ }
+{
+    let none = BasicPolicy {
+        condition: 0,
+        action: 0,
+    };
+    let mut policies = [none; 15];
+    policies[0] = pair_at(s, 4);
+    policies[1] = pair_at(s, 6);
+    policies[2] = pair_at(s, 8);
+    policies[3] = pair_at(s, 10);
+    policies
+}
+
 // The four pairs of 0f, from byte 4.
 pub fn pairs_at(s: &[u8]) -> [BasicPolicy; 4]
     ensures { λ r. ⌜ r ≡ pairsAt (now (s .entry)) ⌝ }
@@ -87,45 +103,40 @@ pub fn pairs_at(s: &[u8]) -> [BasicPolicy; 4]
 fn size_of(code: u8) -> usize
     ensures { λ r. ⌜ r ≡ sizeOf code ⌝ }
 {
-    let sizes: [usize; 32] = [
-        0,
-        3,
-        2,
-        3,
-        3,
-        10,
-        2,
-        4,
-        3,
-        2,
-        2,
-        2,
-        2,
-        4,
-        2,
-        12, // 00 to 0f
-        11,
-        3,
-        3,
-        3,
-        4,
-        2,
-        6,
-        6,
-        2,
-        4,
-        3,
-        2,
-        2,
-        2,
-        3,
-        3, // 10 to 1f
-    ];
-    let i = code as usize;
-    if 32 <= i {
-        return 0;
+    match code {
+        0x01 => 3,
+        0x02 => 2,
+        0x03 => 3,
+        0x04 => 3,
+        0x05 => 10,
+        0x06 => 2,
+        0x07 => 4,
+        0x08 => 3,
+        0x09 => 2,
+        0x0a => 2,
+        0x0b => 2,
+        0x0c => 2,
+        0x0d => 4,
+        0x0e => 2,
+        0x0f => 12,
+        0x10 => 11,
+        0x11 => 3,
+        0x12 => 3,
+        0x13 => 3,
+        0x14 => 4,
+        0x15 => 2,
+        0x16 => 6,
+        0x17 => 6,
+        0x18 => 2,
+        0x19 => 4,
+        0x1a => 3,
+        0x1b => 2,
+        0x1c => 2,
+        0x1d => 2,
+        0x1e => 3,
+        0x1f => 3,
+        _ => 0,
     }
-    sizes[i]
 }
 
 // A whole 0f with a count above 4 is no command.

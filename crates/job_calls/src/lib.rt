@@ -1,64 +1,94 @@
-// job_calls: making, killing and showing a job, and its timer slack. Follows job.rs. Each call answers document 01's
-// refusals in its order, and else what its definition in model/specs/JobCalls.antt comes to.
+// job_calls: the calls on a job, on the tables by value: 01, 02, 0f, 10 and 1b. Each reads the records that it names,
+// asks crate job, and stores what that gives. What each comes to is in model/specs/JobCalls.antt.
+ghost use lib.ListN.{take};
 ghost use mathlib.Core.Path.{_≡_};
-ghost use Rattle.model.specs.JobCalls.{withChild, createChild, killJobCall};
-ghost use Rattle.model.specs.JobCalls.{setPolicyTimerSlack, jobInformation};
-use error::Refusal;
-use error::ZxError;
-use cascade::kill_job;
-use job_lists::job_empty;
-use job_lists::policy_of;
+ghost use Rattle.model.specs.JobCalls.{createChild, killJobCall, setPolicyBasic, setPolicyTimerSlack};
+ghost use Rattle.model.specs.JobCalls.{jobInformation};
+ghost use Rattle.job.specs.Job.{madeIn, killedIn, moved};
+use job::Killing;
+use job::Made;
+use job::Move;
+use job_policy::BasicPolicy;
 use job_policy::TimerSlackPolicy;
 use reading::inherited_at;
 use reading::job_at;
 use reading::own_at;
-use record_job::Job;
-use record_job::FoundJob;
 use records::tables::Tables;
 use reply::Reply;
 
-// The inherited policy is fixed when a job is made.
-fn with_child(t: Tables, job: u8, new: u8) -> Tables
-    ensures { λ r. ⌜ r ≡ withChild t job new ⌝ }
+// -- What a call gave, stored where the records were -------------------------------------------
+
+fn made_in(t: Tables, new: u8, m: Made) -> Reply
+    ensures { λ r. ⌜ r ≡ madeIn t new m ⌝ }
 {
-    let policy = policy_of(t, job);
-    let made = t.with_job(new, Job::new(job));
-    made.with_inherited(new, policy)
+    let v = m.job;
+    let inherited = m.inherited;
+    let u = t.with_job(new % 32, v);
+    Reply::answered(u.with_inherited(new % 32, inherited), m.answer)
 }
+
+// Where the kill reaches further, it is the cascade's.
+fn killed_in(t: Tables, job: u8, m: Killing) -> Reply
+    ensures { λ r. ⌜ r ≡ killedIn t job m ⌝ }
+{
+    let v = m.job;
+    let u = t.with_job(job % 32, v);
+    if m.kills {
+        return Reply::answered(cascade::kill_job(u, job), m.answer);
+    }
+    Reply::answered(u, m.answer)
+}
+
+pub fn moved(t: Tables, job: u8, m: Move) -> Reply
+    ensures { λ r. ⌜ r ≡ moved t job m ⌝ }
+{
+    let v = m.job;
+    let own = m.own;
+    let u = t.with_job(job % 32, v);
+    Reply::answered(u.with_own(job % 32, own), m.answer)
+}
+
+// -- Making and killing ------------------------------------------------------------------------
 
 // 01: `Job::create_child`.
 pub fn create_child(t: Tables, job: u8, new: u8) -> Reply
     ensures { λ r. ⌜ r ≡ createChild t job new ⌝ }
 {
-    if 32 <= job {
-        return Reply::answered(t, Refusal::PAST_TABLE);
-    }
-    if 32 <= new {
-        return Reply::answered(t, Refusal::PAST_TABLE);
-    }
-    let FoundJob::OldJob(v) = lookup::job(t, job) else {
-        return Reply::answered(t, Refusal::NOT_MADE);
-    };
-    if job_at(t, new).made {
-        return Reply::answered(t, Refusal::USED);
-    }
-    if v.killed {
-        return Reply::answered(t, ZxError::BAD_STATE);
-    }
-    Reply::answered(with_child(t, job, new), 0)
+    let j = job_at(t, job % 32);
+    let own = own_at(t, job % 32);
+    let inherited = inherited_at(t, job % 32);
+    let w = job_at(t, new % 32);
+    let held = inherited_at(t, new % 32);
+    made_in(
+        t,
+        new,
+        job::create_child(job, new, j, own, inherited, w, held),
+    )
 }
 
 // 02: `Job::kill`.
 pub fn kill(t: Tables, job: u8) -> Reply
     ensures { λ r. ⌜ r ≡ killJobCall t job ⌝ }
 {
-    if 32 <= job {
-        return Reply::answered(t, Refusal::PAST_TABLE);
-    }
-    let FoundJob::OldJob(v) = lookup::job(t, job) else {
-        return Reply::answered(t, Refusal::NOT_MADE);
-    };
-    Reply::answered(kill_job(t, job), 0)
+    let j = job_at(t, job % 32);
+    let jobs = t.jobs;
+    let processes = t.processes;
+    let alone = lists::kills_alone(jobs, processes, job);
+    killed_in(t, job, job::kill(job, j, alone))
+}
+
+// -- Settings and information ------------------------------------------------------------------
+
+// 0f: `Job::set_policy_basic` with up to fifteen entries by value; a count above 15 takes all fifteen.
+pub fn set_policy(t: Tables, job: u8, option: u8, count: u8, policies: [BasicPolicy; 15]) -> Reply
+    ensures { λ r. ⌜ r ≡ setPolicyBasic t job option (take count policies) ⌝ }
+{
+    let j = job_at(t, job % 32);
+    let own = own_at(t, job % 32);
+    let inherited = inherited_at(t, job % 32);
+    let empty = job_lists::job_empty(t, job);
+    let m = job::set_policy(job, option, count, policies, j, own, inherited, empty);
+    moved(t, job, m)
 }
 
 // 10: `Job::set_policy_timer_slack`.
@@ -66,11 +96,12 @@ pub fn set_policy_timer_slack(t: Tables, job: u8, policy: TimerSlackPolicy) -> R
     ensures { λ r. ⌜ r ≡ setPolicyTimerSlack t job policy ⌝ }
 {
     let j = job_at(t, job % 32);
-    let empty = job_empty(t, job);
-    job_move::moved(
+    let own = own_at(t, job % 32);
+    let empty = job_lists::job_empty(t, job);
+    moved(
         t,
         job,
-        on_job::set_policy_timer_slack(job, j, empty, policy),
+        job::set_policy_timer_slack(job, policy, j, own, empty),
     )
 }
 
@@ -78,9 +109,8 @@ pub fn set_policy_timer_slack(t: Tables, job: u8, policy: TimerSlackPolicy) -> R
 pub fn get_info(t: Tables, job: u8) -> Reply
     ensures { λ r. ⌜ r ≡ jobInformation t job ⌝ }
 {
-    let slot = job % 32;
-    let j = job_at(t, slot);
-    let own = own_at(t, slot);
-    let inherited = inherited_at(t, slot);
-    job_move::moved(t, job, on_job::get_info(job, j, own, inherited))
+    let j = job_at(t, job % 32);
+    let own = own_at(t, job % 32);
+    let inherited = inherited_at(t, job % 32);
+    Reply::showing(t, job::get_info(job, j, own, inherited))
 }

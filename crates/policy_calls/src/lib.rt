@@ -1,11 +1,11 @@
-// policy_calls: 0f, a list of entries set on a job's own policy. Follows job.rs.
-// One pass notes what each entry brings; the refusals are answered after it, in document 01's
-// order.
+// policy_calls: 0f with a lent list of any length, by way of crate job. Follows job.rs. What stands here of four entries
+// by value is for calls and policy_changes. One pass notes what each entry brings; the refusals are answered after it.
 ghost use lib.ListN.{take};
 ghost use mathlib.Core.Path.{_≡_};
 ghost use Rattle.model.specs.JobCalls.{setPolicyBasic};
 ghost use Rattle.model.specs.JobPolicy.{badEntry, setting, policySet};
-ghost use Rattle.policy_calls.specs.Work.{startWork, beginWork, enterWork, stepWork};
+ghost use Rattle.job.specs.Work.{beginWork as beginning, stepWork as stepping, finishWork as finishing};
+ghost use Rattle.policy_calls.specs.Work.{startWork, enterWork, stepWork};
 ghost use Rattle.policy_calls.specs.Work.{afterEach, finishWork};
 use error::Refusal;
 use error::ZxError;
@@ -15,12 +15,13 @@ use job_policy::JobPolicy;
 use job_policy::PolicyAction;
 use job_policy::PolicyCondition;
 use reading::inherited_at;
+use reading::job_at;
 use reading::own_at;
 use record_job::FoundJob;
 use records::tables::Tables;
 use reply::Reply;
 
-// -- One pass over a list ------------------------------------------------------------------
+// -- One pass over four entries ------------------------------------------------------------
 
 // What is known after some entries. No tables: an entry costs a copy of this alone.
 pub struct Work {
@@ -43,19 +44,6 @@ fn bad_entry(policy: BasicPolicy) -> bool
     PolicyAction::COUNT <= policy.action
 }
 
-// Before the first entry.
-fn begin(t: Tables, job: u8, option: u8) -> Work
-    ensures { λ r. ⌜ r ≡ beginWork t job option ⌝ }
-{
-    Work {
-        own: own_at(t, job),
-        inherited: inherited_at(t, job),
-        option: option,
-        bad: false,
-        refused: false,
-    }
-}
-
 // A good entry. Where the parent set its condition, Absolute (0) refuses it and Relative skips it.
 fn enter(mut w: Work, policy: BasicPolicy) -> Work
     ensures { λ r. ⌜ r ≡ enterWork w policy ⌝ }
@@ -74,7 +62,7 @@ fn enter(mut w: Work, policy: BasicPolicy) -> Work
 }
 
 // One entry of the list.
-fn step(mut w: Work, policy: BasicPolicy) -> Work
+fn step_four(mut w: Work, policy: BasicPolicy) -> Work
     ensures { λ r. ⌜ r ≡ stepWork w policy ⌝ }
 {
     if bad_entry(policy) {
@@ -110,13 +98,13 @@ pub fn four(
         if n <= i {
             return w;
         }
-        w = step(w, policies[i]);
+        w = step_four(w, policies[i]);
         i += 1;
     }
     w
 }
 
-// -- The answer ----------------------------------------------------------------------------
+// -- The answer of four entries ------------------------------------------------------------
 
 // The entries before a refused one stay set: the one refusal that leaves a change.
 fn policy_set(t: Tables, job: u8, w: Work) -> Reply
@@ -131,7 +119,7 @@ fn policy_set(t: Tables, job: u8, w: Work) -> Reply
 }
 
 // After the last entry.
-fn finish(t: Tables, job: u8, option: u8, w: Work) -> Reply
+fn finish_four(t: Tables, job: u8, option: u8, w: Work) -> Reply
     ensures { λ r. ⌜ r ≡ finishWork t job option w ⌝ }
 {
     if 1 < option {
@@ -152,7 +140,31 @@ fn finish(t: Tables, job: u8, option: u8, w: Work) -> Reply
     policy_set(t, job, w)
 }
 
-// -- The calls -----------------------------------------------------------------------------
+// -- A list of any length ------------------------------------------------------------------
+
+// Before the first entry.
+fn begin(t: Tables, job: u8, option: u8) -> job::policy::Work
+    ensures { λ r. ⌜ r ≡ beginning t job option ⌝ }
+{
+    job::policy::Work::start(own_at(t, job), inherited_at(t, job), option)
+}
+
+// One entry of the list.
+fn step(w: job::policy::Work, policy: BasicPolicy) -> job::policy::Work
+    ensures { λ r. ⌜ r ≡ stepping w policy ⌝ }
+{
+    w.step(policy)
+}
+
+// After the last entry.
+fn finish(t: Tables, job: u8, option: u8, w: job::policy::Work) -> Reply
+    ensures { λ r. ⌜ r ≡ finishing t job option w ⌝ }
+{
+    let j = job_at(t, job % 32);
+    let own = own_at(t, job % 32);
+    let empty = job_lists::job_empty(t, job);
+    job_calls::moved(t, job, job::settle_policy(job, option, w, j, own, empty))
+}
 
 // `Job::set_policy_basic`, with a list of any length. A lent slice of structs: proved by a walk.
 pub fn set_policy_basic(t: Tables, job: u8, option: u8, policies: &[BasicPolicy]) -> Reply
@@ -167,6 +179,8 @@ pub fn set_policy_basic(t: Tables, job: u8, option: u8, policies: &[BasicPolicy]
     finish(t, job, option, w)
 }
 
+// -- Four entries --------------------------------------------------------------------------
+
 // 0f: the same with at most four entries, by value; a count above 4 takes all four.
 pub fn set_policy_four(
     t: Tables,
@@ -179,7 +193,7 @@ pub fn set_policy_four(
 {
     let own = own_at(t, job);
     let inherited = inherited_at(t, job);
-    finish(
+    finish_four(
         t,
         job,
         option,

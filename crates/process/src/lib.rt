@@ -157,7 +157,7 @@ pub struct Move {
 }
 
 impl Move {
-    fn new(q: Process, answer: i64) -> Move
+    pub fn new(q: Process, answer: i64) -> Move
         ensures { λ r. ⌜ r ≡ move q answer ⌝ }
     {
         Move {

@@ -1,91 +1,126 @@
-// process_calls: making and ending a process, and the end of a thread. Follows process.rs; process_state_calls has the
-// other calls on a process. Each answers document 01's refusals in its order, and else what its definition in
-// model/specs/JobCalls.antt comes to.
+// process_calls: the calls on a process, on the tables by value: 03 to 07, 11 and 1c. Each reads the records that it
+// names, asks crate process, and stores what that gives. What each comes to is in model/specs/JobCalls.antt.
 ghost use mathlib.Core.Path.{_≡_};
-ghost use Rattle.model.specs.JobCalls.{withNewProcess, createProcess, exitProcessCall, killProcess};
-ghost use Rattle.model.specs.ThreadCalls.{finishThreadCall};
-use error::Refusal;
-use error::ZxError;
-use cascade::exit_process;
-use cascade::finish_thread;
-use job_lists::policy_of;
+ghost use Rattle.model.specs.JobCalls.{createProcess, startProcess, exitProcessCall, killProcess};
+ghost use Rattle.model.specs.JobCalls.{setCriticalAtJob, checkPolicy, processInformation};
+ghost use Rattle.process.specs.Process.{madeIn, exitedIn, moved};
+use process::Exiting;
+use process::Made;
+use process::Move;
+use reading::fixed_at;
+use reading::inherited_at;
+use reading::job_at;
+use reading::own_at;
 use reading::process_at;
-use record_process::Process;
-use record_job::FoundJob;
-use record_process::FoundProcess;
-use record_thread::FoundThread;
+use reading::thread_at;
 use records::tables::Tables;
 use reply::Reply;
 
-// The policy is fixed when a process is made.
-fn with_new_process(t: Tables, job: u8, new: u8) -> Tables
-    ensures { λ r. ⌜ r ≡ withNewProcess t job new ⌝ }
+// -- What a call gave, stored where the records were -------------------------------------------
+
+fn made_in(t: Tables, new: u8, m: Made) -> Reply
+    ensures { λ r. ⌜ r ≡ madeIn t new m ⌝ }
 {
-    let policy = policy_of(t, job);
-    let made = t.with_process(new, Process::new(job));
-    made.with_fixed(new, policy)
+    let q = m.process;
+    let fixed = m.fixed;
+    let u = t.with_process(new % 64, q);
+    Reply::answered(u.with_fixed(new % 64, fixed), m.answer)
 }
+
+// Where the process exits, the threads that it lists are killed; it ends where it lists none.
+fn exited_in(t: Tables, process: u8, m: Exiting) -> Reply
+    ensures { λ r. ⌜ r ≡ exitedIn t process m ⌝ }
+{
+    let q = m.process;
+    let u = t.with_process(process % 64, q);
+    if m.exits {
+        return Reply::answered(cascade::exit_listed(u, process % 64), m.answer);
+    }
+    Reply::answered(u, m.answer)
+}
+
+pub fn moved(t: Tables, process: u8, m: Move) -> Reply
+    ensures { λ r. ⌜ r ≡ moved t process m ⌝ }
+{
+    let q = m.process;
+    Reply::answered(t.with_process(process % 64, q), m.answer)
+}
+
+// -- Making and starting -----------------------------------------------------------------------
 
 // 03: `Process::create_with_ext`.
 pub fn create_with_ext(t: Tables, job: u8, new: u8) -> Reply
     ensures { λ r. ⌜ r ≡ createProcess t job new ⌝ }
 {
-    if 32 <= job {
-        return Reply::answered(t, Refusal::PAST_TABLE);
-    }
-    if 64 <= new {
-        return Reply::answered(t, Refusal::PAST_TABLE);
-    }
-    let FoundJob::OldJob(v) = lookup::job(t, job) else {
-        return Reply::answered(t, Refusal::NOT_MADE);
-    };
-    if process_at(t, new).made {
-        return Reply::answered(t, Refusal::USED);
-    }
-    if v.killed {
-        return Reply::answered(t, ZxError::BAD_STATE);
-    }
-    Reply::answered(with_new_process(t, job, new), 0)
+    let j = job_at(t, job % 32);
+    let own = own_at(t, job % 32);
+    let inherited = inherited_at(t, job % 32);
+    let q = process_at(t, new % 64);
+    let fixed = fixed_at(t, new % 64);
+    made_in(
+        t,
+        new,
+        process::create_with_ext(job, new, j, own, inherited, q, fixed),
+    )
 }
+
+// 04: `Process::start`.
+pub fn start(t: Tables, process: u8, thread: u8) -> Reply
+    ensures { λ r. ⌜ r ≡ startProcess t process thread ⌝ }
+{
+    let q = process_at(t, process % 64);
+    let v = thread_at(t, thread % 128);
+    thread_calls::both_moved(t, process, thread, process::start(process, thread, q, v))
+}
+
+// -- Ending and binding ------------------------------------------------------------------------
 
 // 05: `Process::exit`.
 pub fn exit(t: Tables, process: u8, code: i64) -> Reply
     ensures { λ r. ⌜ r ≡ exitProcessCall t process code ⌝ }
 {
-    if 64 <= process {
-        return Reply::answered(t, Refusal::PAST_TABLE);
-    }
-    let FoundProcess::OldProcess(q) = lookup::process(t, process) else {
-        return Reply::answered(t, Refusal::NOT_MADE);
-    };
-    Reply::answered(exit_process(t, process, code), 0)
+    let q = process_at(t, process % 64);
+    exited_in(t, process, process::exit(process, q, code))
 }
 
 // 06: `Process::kill`.
 pub fn kill(t: Tables, process: u8) -> Reply
     ensures { λ r. ⌜ r ≡ killProcess t process ⌝ }
 {
-    if 64 <= process {
-        return Reply::answered(t, Refusal::PAST_TABLE);
-    }
-    let FoundProcess::OldProcess(q) = lookup::process(t, process) else {
-        return Reply::answered(t, Refusal::NOT_MADE);
-    };
-    Reply::answered(exit_process(t, process, Process::KILL_CODE), 0)
+    let q = process_at(t, process % 64);
+    exited_in(t, process, process::kill(process, q))
 }
 
-// 0c: `CurrentThread` dropped.
-pub fn finish(t: Tables, thread: u8) -> Reply
-    ensures { λ r. ⌜ r ≡ finishThreadCall t thread ⌝ }
+// 07: `Process::set_critical_at_job`.
+pub fn set_critical_at_job(t: Tables, process: u8, job: u8, flag: u8) -> Reply
+    ensures { λ r. ⌜ r ≡ setCriticalAtJob t process job flag ⌝ }
 {
-    if 128 <= thread {
-        return Reply::answered(t, Refusal::PAST_TABLE);
-    }
-    let FoundThread::OldThread(v) = lookup::thread(t, thread) else {
-        return Reply::answered(t, Refusal::NOT_MADE);
-    };
-    if !v.is_free() {
-        return Reply::answered(t, Refusal::OUT_OF_TURN);
-    }
-    Reply::answered(finish_thread(t, thread), 0)
+    let q = process_at(t, process % 64);
+    let j = job_at(t, job % 32);
+    let jobs = t.jobs;
+    let above = lists::at_or_above(jobs, job, q.job);
+    moved(
+        t,
+        process,
+        process::set_critical_at_job(process, job, flag, q, j, above),
+    )
+}
+
+// -- Policy and information --------------------------------------------------------------------
+
+// 11: `Process::check_policy`.
+pub fn check_policy(t: Tables, process: u8, condition: u8) -> Reply
+    ensures { λ r. ⌜ r ≡ checkPolicy t process condition ⌝ }
+{
+    let q = process_at(t, process % 64);
+    let fixed = fixed_at(t, process % 64);
+    Reply::showing(t, process::check_policy(process, condition, q, fixed))
+}
+
+// 1c: process information.
+pub fn get_info(t: Tables, process: u8) -> Reply
+    ensures { λ r. ⌜ r ≡ processInformation t process ⌝ }
+{
+    let q = process_at(t, process % 64);
+    Reply::showing(t, process::get_info(process, q))
 }

@@ -59,7 +59,7 @@ fn tasks() -> Tables {
     t = process_calls::create_with_ext(t, 1, 1).tables;
     t = process_calls::create_with_ext(t, 1, 2).tables;
     t = process_calls::exit(t, 1, 7).tables;
-    t = process_state_calls::set_critical_at_job(t, 2, 0, 0).tables;
+    t = process_calls::set_critical_at_job(t, 2, 0, 0).tables;
     t = thread_calls::create_with_ext(t, 0, 0).tables;
     t = thread_calls::create_with_ext(t, 0, 1).tables;
     t = thread_calls::create_with_ext(t, 2, 2).tables;
@@ -67,7 +67,7 @@ fn tasks() -> Tables {
     t = thread_calls::create_with_ext(t, 0, 4).tables;
     t = thread_calls::start(t, 1).tables;
     t = thread_calls::start(t, 4).tables;
-    wait_calls::begin_wait(t, 4, 3).tables
+    thread_calls::begin_wait(t, 4, 3).tables
 }
 
 fn jobs(t: Tables) {
@@ -95,11 +95,11 @@ fn policies(t: Tables) {
     show(0x0f, policy(t, 9, 0, 3, 1).answer);
     show(0x0f, policy(t, 1, 0, 3, 1).answer);
     show(0x0f, policy(t, 3, 0, 6, 1).answer);
-    show(0x11, process_state_calls::check_policy(t, 64, 15).answer);
-    show(0x11, process_state_calls::check_policy(t, 64, 4).answer);
-    show(0x11, process_state_calls::check_policy(t, 9, 4).answer);
-    show(0x11, process_state_calls::check_policy(t, 0, 6).answer);
-    show(0x11, process_state_calls::check_policy(t, 0, 4).answer);
+    show(0x11, process_calls::check_policy(t, 64, 15).answer);
+    show(0x11, process_calls::check_policy(t, 64, 4).answer);
+    show(0x11, process_calls::check_policy(t, 9, 4).answer);
+    show(0x11, process_calls::check_policy(t, 0, 6).answer);
+    show(0x11, process_calls::check_policy(t, 0, 4).answer);
 }
 
 fn processes(t: Tables) {
@@ -114,53 +114,35 @@ fn processes(t: Tables) {
     show(0x06, process_calls::kill(t, 9).answer);
     show(
         0x07,
-        process_state_calls::set_critical_at_job(t, 64, 32, 2).answer,
+        process_calls::set_critical_at_job(t, 64, 32, 2).answer,
     );
-    show(
-        0x07,
-        process_state_calls::set_critical_at_job(t, 64, 0, 1).answer,
-    );
-    show(
-        0x07,
-        process_state_calls::set_critical_at_job(t, 9, 32, 1).answer,
-    );
-    show(
-        0x07,
-        process_state_calls::set_critical_at_job(t, 9, 0, 1).answer,
-    );
-    show(
-        0x07,
-        process_state_calls::set_critical_at_job(t, 2, 9, 1).answer,
-    );
-    show(
-        0x07,
-        process_state_calls::set_critical_at_job(t, 2, 3, 1).answer,
-    );
-    show(
-        0x07,
-        process_state_calls::set_critical_at_job(t, 0, 3, 1).answer,
-    );
-    show(0x1c, process_state_calls::get_info(t, 64).answer);
-    show(0x1c, process_state_calls::get_info(t, 9).answer);
+    show(0x07, process_calls::set_critical_at_job(t, 64, 0, 1).answer);
+    show(0x07, process_calls::set_critical_at_job(t, 9, 32, 1).answer);
+    show(0x07, process_calls::set_critical_at_job(t, 9, 0, 1).answer);
+    show(0x07, process_calls::set_critical_at_job(t, 2, 9, 1).answer);
+    show(0x07, process_calls::set_critical_at_job(t, 2, 3, 1).answer);
+    show(0x07, process_calls::set_critical_at_job(t, 0, 3, 1).answer);
+    show(0x1c, process_calls::get_info(t, 64).answer);
+    show(0x1c, process_calls::get_info(t, 9).answer);
 }
 
 // Process 0 runs once thread 1 was started with it.
 fn starts(t: Tables) {
-    show(0x04, process_state_calls::start(t, 64, 0).answer);
-    show(0x04, process_state_calls::start(t, 0, 128).answer);
-    show(0x04, process_state_calls::start(t, 9, 9).answer);
-    show(0x04, process_state_calls::start(t, 0, 9).answer);
-    show(0x04, process_state_calls::start(t, 2, 1).answer);
-    show(0x04, process_state_calls::start(t, 2, 0).answer);
-    let running = process_state_calls::start(t, 0, 0).tables;
+    show(0x04, process_calls::start(t, 64, 0).answer);
+    show(0x04, process_calls::start(t, 0, 128).answer);
+    show(0x04, process_calls::start(t, 9, 9).answer);
+    show(0x04, process_calls::start(t, 0, 9).answer);
+    show(0x04, process_calls::start(t, 2, 1).answer);
+    show(0x04, process_calls::start(t, 2, 0).answer);
+    let running = process_calls::start(t, 0, 0).tables;
     let another = thread_calls::create_with_ext(running, 0, 9).tables;
-    show(0x04, process_state_calls::start(another, 0, 9).answer);
-    show(0x0c, process_calls::finish(t, 128).answer);
-    show(0x0c, process_calls::finish(t, 9).answer);
-    show(0x0c, process_calls::finish(t, 0).answer);
-    show(0x0c, process_calls::finish(t, 4).answer);
-    let finished = process_calls::finish(t, 1).tables;
-    show(0x0c, process_calls::finish(finished, 1).answer);
+    show(0x04, process_calls::start(another, 0, 9).answer);
+    show(0x0c, thread_calls::finish(t, 128).answer);
+    show(0x0c, thread_calls::finish(t, 9).answer);
+    show(0x0c, thread_calls::finish(t, 0).answer);
+    show(0x0c, thread_calls::finish(t, 4).answer);
+    let finished = thread_calls::finish(t, 1).tables;
+    show(0x0c, thread_calls::finish(finished, 1).answer);
 }
 
 fn threads(t: Tables) {
@@ -182,15 +164,15 @@ fn threads(t: Tables) {
 }
 
 fn waits(t: Tables) {
-    show(0x19, wait_calls::begin_wait(t, 128, 4).answer);
-    show(0x19, wait_calls::begin_wait(t, 128, 3).answer);
-    show(0x19, wait_calls::begin_wait(t, 9, 3).answer);
-    show(0x19, wait_calls::begin_wait(t, 0, 3).answer);
-    show(0x19, wait_calls::begin_wait(t, 4, 3).answer);
-    show(0x1a, wait_calls::poll_wait(t, 128, 8).answer);
-    show(0x1a, wait_calls::poll_wait(t, 128, 7).answer);
-    show(0x1a, wait_calls::poll_wait(t, 9, 7).answer);
-    show(0x1a, wait_calls::poll_wait(t, 1, 7).answer);
+    show(0x19, thread_calls::begin_wait(t, 128, 4).answer);
+    show(0x19, thread_calls::begin_wait(t, 128, 3).answer);
+    show(0x19, thread_calls::begin_wait(t, 9, 3).answer);
+    show(0x19, thread_calls::begin_wait(t, 0, 3).answer);
+    show(0x19, thread_calls::begin_wait(t, 4, 3).answer);
+    show(0x1a, thread_calls::poll_wait(t, 128, 8).answer);
+    show(0x1a, thread_calls::poll_wait(t, 128, 7).answer);
+    show(0x1a, thread_calls::poll_wait(t, 9, 7).answer);
+    show(0x1a, thread_calls::poll_wait(t, 1, 7).answer);
 }
 
 // Token 0 is on process 0, which has a thread made after it.
@@ -207,31 +189,31 @@ fn suspends(t: Tables) {
     show(0x0e, token_calls::drop(later, 64).answer);
     show(0x0e, token_calls::drop(later, 9).answer);
     show(0x0e, token_calls::drop(later, 0).answer);
-    show(0x1e, suspend_calls::suspend(t, 3, 128).answer);
-    show(0x1e, suspend_calls::suspend(t, 2, 128).answer);
-    show(0x1e, suspend_calls::suspend(t, 2, 9).answer);
-    show(0x1e, suspend_calls::suspend(t, 0, 1).answer);
-    show(0x1e, suspend_calls::suspend(t, 2, 3).answer);
-    show(0x1f, suspend_calls::resume(t, 3, 128).answer);
-    show(0x1f, suspend_calls::resume(t, 2, 128).answer);
-    show(0x1f, suspend_calls::resume(t, 2, 9).answer);
-    show(0x1f, suspend_calls::resume(t, 0, 1).answer);
-    show(0x1f, suspend_calls::resume(t, 2, 0).answer);
+    show(0x1e, token_calls::suspend(t, 3, 128).answer);
+    show(0x1e, token_calls::suspend(t, 2, 128).answer);
+    show(0x1e, token_calls::suspend(t, 2, 9).answer);
+    show(0x1e, token_calls::suspend(t, 0, 1).answer);
+    show(0x1e, token_calls::suspend(t, 2, 3).answer);
+    show(0x1f, token_calls::resume(t, 3, 128).answer);
+    show(0x1f, token_calls::resume(t, 2, 128).answer);
+    show(0x1f, token_calls::resume(t, 2, 9).answer);
+    show(0x1f, token_calls::resume(t, 0, 1).answer);
+    show(0x1f, token_calls::resume(t, 2, 0).answer);
 }
 
 // The levels of process 1 are shut; level 4 of job 1 is bound.
 fn levels(t: Tables) {
-    let bound = channel_calls::create_channel(t, 4, 1).tables;
-    show(0x12, channel_calls::create_channel(bound, 6, 128).answer);
-    show(0x12, channel_calls::create_channel(bound, 0, 128).answer);
-    show(0x12, channel_calls::create_channel(bound, 2, 128).answer);
-    show(0x12, channel_calls::create_channel(bound, 2, 9).answer);
-    show(0x12, channel_calls::create_channel(bound, 3, 1).answer);
-    show(0x12, channel_calls::create_channel(bound, 4, 1).answer);
-    show(0x13, channel_calls::hang_up(bound, 6, 128).answer);
-    show(0x13, channel_calls::hang_up(bound, 4, 32).answer);
-    show(0x13, channel_calls::hang_up(bound, 4, 9).answer);
-    show(0x13, channel_calls::hang_up(bound, 5, 1).answer);
+    let bound = exception_calls::create_channel(t, 4, 1).tables;
+    show(0x12, exception_calls::create_channel(bound, 6, 128).answer);
+    show(0x12, exception_calls::create_channel(bound, 0, 128).answer);
+    show(0x12, exception_calls::create_channel(bound, 2, 128).answer);
+    show(0x12, exception_calls::create_channel(bound, 2, 9).answer);
+    show(0x12, exception_calls::create_channel(bound, 3, 1).answer);
+    show(0x12, exception_calls::create_channel(bound, 4, 1).answer);
+    show(0x13, exception_calls::hang_up(bound, 6, 128).answer);
+    show(0x13, exception_calls::hang_up(bound, 4, 32).answer);
+    show(0x13, exception_calls::hang_up(bound, 4, 9).answer);
+    show(0x13, exception_calls::hang_up(bound, 5, 1).answer);
     show(
         0x14,
         exception_calls::handle_exception(t, 128, 0x8408).answer,
@@ -247,21 +229,24 @@ fn levels(t: Tables) {
 
 // Thread 1 waits in an exception at its own level.
 fn handlers(t: Tables) {
-    let bound = channel_calls::create_channel(t, 2, 1).tables;
+    let bound = exception_calls::create_channel(t, 2, 1).tables;
     let raised = exception_calls::handle_exception(bound, 1, 8).tables;
-    show(0x16, handler_calls::set_state(raised, 128, 2).answer);
-    show(0x16, handler_calls::set_state(raised, 9, 2).answer);
-    show(0x16, handler_calls::set_state(raised, 4, 2).answer);
-    show(0x16, handler_calls::set_state(raised, 1, 2).answer);
-    show(0x17, handler_calls::set_strategy(raised, 128, 2).answer);
-    show(0x17, handler_calls::set_strategy(raised, 9, 2).answer);
-    show(0x17, handler_calls::set_strategy(raised, 4, 2).answer);
-    show(0x17, handler_calls::set_strategy(raised, 1, 2).answer);
-    show(0x17, handler_calls::set_strategy(raised, 1, 1).answer);
-    show(0x18, handler_calls::get_process_handle(raised, 128).answer);
-    show(0x18, handler_calls::get_process_handle(raised, 9).answer);
-    show(0x18, handler_calls::get_process_handle(raised, 4).answer);
-    show(0x18, handler_calls::get_process_handle(raised, 1).answer);
+    show(0x16, exception_calls::set_state(raised, 128, 2).answer);
+    show(0x16, exception_calls::set_state(raised, 9, 2).answer);
+    show(0x16, exception_calls::set_state(raised, 4, 2).answer);
+    show(0x16, exception_calls::set_state(raised, 1, 2).answer);
+    show(0x17, exception_calls::set_strategy(raised, 128, 2).answer);
+    show(0x17, exception_calls::set_strategy(raised, 9, 2).answer);
+    show(0x17, exception_calls::set_strategy(raised, 4, 2).answer);
+    show(0x17, exception_calls::set_strategy(raised, 1, 2).answer);
+    show(0x17, exception_calls::set_strategy(raised, 1, 1).answer);
+    show(
+        0x18,
+        exception_calls::get_process_handle(raised, 128).answer,
+    );
+    show(0x18, exception_calls::get_process_handle(raised, 9).answer);
+    show(0x18, exception_calls::get_process_handle(raised, 4).answer);
+    show(0x18, exception_calls::get_process_handle(raised, 1).answer);
 }
 
 fn main() {

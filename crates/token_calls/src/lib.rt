@@ -1,58 +1,126 @@
-// token_calls: suspend tokens made and dropped. Follows suspend_token.rs; the definitions are in
-// model/specs/ThreadCalls.antt. A token on a job is refused: the Rust panics.
+// token_calls: suspending and resuming a task, and tokens, on the tables by value: 0d, 0e, 1e and 1f. Each reads the
+// records that it names, asks crate suspend_token, and stores what that gives. What each comes to is in
+// model/specs/ThreadCalls.antt.
 ghost use mathlib.Core.Path.{_≡_};
-ghost use Rattle.model.specs.ThreadCalls.{createTokenCall, dropTokenCall};
-use error::Refusal;
-use owners::FoundTask;
+ghost use Rattle.model.specs.ThreadCalls.{createTokenCall, dropTokenCall, suspendCall, resumeCall};
+ghost use Rattle.token_calls.specs.TokenCalls.{ofEach, changedTo, taskTo, tokenTo};
+use reading::job_at;
+use reading::process_at;
+use reading::thread_at;
 use reading::token_at;
+use record_thread::Thread;
 use record_token::Kind;
-use record_token::FoundToken;
 use records::tables::Tables;
 use reply::Reply;
-use suspending::create_token;
-use suspending::drop_token;
-use suspending::some_at;
+use suspend_token::Task;
+use suspend_token::Token;
+use thread_lists::Each;
+
+// -- What a call gave, stored where the records were -------------------------------------------
+
+// Whether each thread of a process is to be changed.
+fn of_each(kind: u8, m: Task) -> bool
+    ensures { λ r. ⌜ r ≡ ofEach kind m ⌝ }
+{
+    if kind == Kind::PROCESS {
+        return m.each;
+    }
+    false
+}
+
+// Of a process: these threads, where each is to be changed. Else the one thread.
+fn changed_to(mut t: Tables, kind: u8, name: u8, threads: [Thread; 128], m: Task) -> Tables
+    ensures { λ r. ⌜ r ≡ changedTo t kind name threads m ⌝ }
+{
+    if of_each(kind, m) {
+        t.threads = threads;
+        return t;
+    }
+    let v = m.thread;
+    t.with_thread(name % 128, v)
+}
+
+fn task_to(t: Tables, kind: u8, name: u8, threads: [Thread; 128], m: Task) -> Reply
+    ensures { λ r. ⌜ r ≡ taskTo t kind name threads m ⌝ }
+{
+    Reply::answered(changed_to(t, kind, name, threads, m), m.answer)
+}
+
+fn token_to(t: Tables, token: u8, kind: u8, name: u8, threads: [Thread; 128], m: Token) -> Reply
+    ensures { λ r. ⌜ r ≡ tokenTo t token kind name threads m ⌝ }
+{
+    let task = m.task;
+    let k = m.token;
+    let u = changed_to(t, kind, name, threads, task);
+    Reply::answered(u.with_token(token % 64, k), task.answer)
+}
+
+// -- Suspending and resuming -------------------------------------------------------------------
+
+// 1e: `Task::suspend`.
+pub fn suspend(t: Tables, kind: u8, name: u8) -> Reply
+    ensures { λ r. ⌜ r ≡ suspendCall t kind name ⌝ }
+{
+    let v = thread_at(t, name % 128);
+    let q = process_at(t, name % 64);
+    let j = job_at(t, name % 32);
+    let threads = t.threads;
+    let done = thread_lists::each_unless(threads, name, Each::SUSPEND);
+    let after = done.threads;
+    task_to(
+        t,
+        kind,
+        name,
+        after,
+        suspend_token::suspend(kind, name, v, q, j, done.barred),
+    )
+}
+
+// 1f: `Task::resume`.
+pub fn resume(t: Tables, kind: u8, name: u8) -> Reply
+    ensures { λ r. ⌜ r ≡ resumeCall t kind name ⌝ }
+{
+    let v = thread_at(t, name % 128);
+    let q = process_at(t, name % 64);
+    let j = job_at(t, name % 32);
+    let threads = t.threads;
+    let done = thread_lists::each_unless(threads, name, Each::RESUME);
+    let after = done.threads;
+    task_to(
+        t,
+        kind,
+        name,
+        after,
+        suspend_token::resume(kind, name, v, q, j, done.barred),
+    )
+}
+
+// -- Tokens --------------------------------------------------------------------------------------
 
 // 0d: `SuspendToken::create`.
 pub fn create(t: Tables, new: u8, kind: u8, name: u8) -> Reply
     ensures { λ r. ⌜ r ≡ createTokenCall t new kind name ⌝ }
 {
-    if 2 < kind {
-        return Reply::answered(t, Refusal::BAD_FIELD);
-    }
-    if 64 <= new {
-        return Reply::answered(t, Refusal::PAST_TABLE);
-    }
-    if tasks::tasks_of(kind) <= name {
-        return Reply::answered(t, Refusal::PAST_TABLE);
-    }
-    let FoundTask::OldTask = tasks::found_task(t, kind, name) else {
-        return Reply::answered(t, Refusal::NOT_MADE);
-    };
-    if token_at(t, new).made {
-        return Reply::answered(t, Refusal::USED);
-    }
-    if kind == Kind::JOB {
-        return Reply::answered(t, Refusal::PANICS);
-    }
-    if some_at(t, kind, name, 65535) {
-        return Reply::answered(t, Refusal::FULL);
-    }
-    Reply::answered(create_token(t, new, kind, name), 0)
+    let k = token_at(t, new % 64);
+    let v = thread_at(t, name % 128);
+    let q = process_at(t, name % 64);
+    let j = job_at(t, name % 32);
+    let threads = t.threads;
+    let done = thread_lists::each_unless(threads, name, Each::SUSPEND);
+    let after = done.threads;
+    let m = suspend_token::create(new, kind, name, k, v, q, j, done.barred);
+    token_to(t, new, kind, name, after, m)
 }
 
 // 0e: a token dropped.
 pub fn drop(t: Tables, token: u8) -> Reply
     ensures { λ r. ⌜ r ≡ dropTokenCall t token ⌝ }
 {
-    if 64 <= token {
-        return Reply::answered(t, Refusal::PAST_TABLE);
-    }
-    let FoundToken::OldToken(v) = lookup::token(t, token) else {
-        return Reply::answered(t, Refusal::NOT_MADE);
-    };
-    if some_at(t, v.kind, v.name, 0) {
-        return Reply::answered(t, Refusal::PANICS);
-    }
-    Reply::answered(drop_token(t, token, v.kind, v.name), 0)
+    let k = token_at(t, token % 64);
+    let v = thread_at(t, k.name % 128);
+    let threads = t.threads;
+    let done = thread_lists::each_unless(threads, k.name, Each::RESUME);
+    let after = done.threads;
+    let m = suspend_token::drop(token, k, v, done.barred);
+    token_to(t, token, k.kind, k.name, after, m)
 }

@@ -13,6 +13,8 @@ get-info-spec =
     (λ c κs. search needs)
     (λ c κs. search needs)
     (λ c.
-    let b = c .before .before in
-    c .moved .ensures ∙ c .before .get-info .ensures _
-    (sym (b .before .before .job-at .ensures)) (sym (b .before .own-at .ensures)) (sym (b .inherited-at .ensures))))
+    let a = c .before .before in
+    c .showing .ensures
+    ∙ c .before .get-info .ensures _ (sym (a .before .before .job-at .ensures))
+    (sym (a .before .own-at .ensures))
+    (sym (a .inherited-at .ensures))))

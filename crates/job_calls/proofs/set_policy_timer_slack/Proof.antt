@@ -11,6 +11,9 @@ set-policy-timer-slack-spec =
     (λ c κs. search needs)
     (λ c κs. search needs)
     (λ c κs. search needs)
+    (λ c κs. search needs)
     (λ c.
-    c .moved .ensures ∙ c .before .set-policy-timer-slack .ensures .0 _
-    (sym (c .before .before .before .job-at .ensures)) (sym (c .before .before .job-empty .ensures))))
+    let a = c .before .before in
+    c .moved .ensures
+    ∙ c .before .set-policy-timer-slack .ensures _ (sym (a .before .before .job-at .ensures))
+    (sym (a .before .own-at .ensures)) (sym (a .job-empty .ensures))))

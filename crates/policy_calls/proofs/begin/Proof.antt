@@ -1,5 +1,5 @@
+use Rattle.job.specs.Work.{beginWork}
 use borrow.Author.Needs.{needs}
-use Rattle.policy_calls.specs.Work.{beginWork}
 use Rattle.policy_calls.proofs.begin.Statement.{statement}
 use Rattle.policy_calls.proofs.begin.Tie as tie
 
@@ -10,4 +10,5 @@ begin-spec =
     (tie.spec
     (λ c κs. search needs)
     (λ c κs. search needs)
-    (λ c. simp (c .inherited-at .ensures, c .before .own-at .ensures)))
+    (λ c κs. search needs)
+    (λ c. simp (c .before .inherited-at .ensures, c .before .before .own-at .ensures) at (c .start .ensures)))

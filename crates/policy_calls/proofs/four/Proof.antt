@@ -21,7 +21,7 @@ loop-holds c = (search (needs, length-mapped), (search needs, refl))
 loop-again : tie.Need-loop-again Inv-loop μ-loop
 loop-again c =
     let inv = c .before .before .before .before .loop .inv in
-    let e = c .step .ensures in (
+    let e = c .step-four .ensures in (
       search (needs, length-mapped),
       (
         search needs,

@@ -57,18 +57,18 @@ use Rattle.job_policy.specs.declared.BasicPolicy.{BasicPolicy}
 use Rattle.records.specs.declared.tables.Tables.{Tables}
 use Rattle.reply.specs.declared.Reply.{Reply}
 use Rattle.model.specs.JobCalls.{setPolicyBasic}
-use Rattle.policy_calls.specs.declared.Work.{Work}
-use Rattle.policy_calls.specs.Work.{beginWork, stepWork, afterEach, finishWork}
+use Rattle.job.specs.declared.policy.Work.{Work}
+use Rattle.job.specs.Work.{beginWork, stepWork, afterEach, finishWork}
 use Rattle.policy_calls.proofs.Walk.{plain-call, tests}
-use Rattle.policy_calls.proofs.Fold.{one-pass, pass-next, pass-end}
+use Rattle.job.proofs.Fold.{one-pass, pass-next, pass-end}
 use Rattle.records.proofs.tables.Tables as T
 use Rattle.records.proofs.tables.Tables.Laws as T′
 use Rattle.job_policy.proofs.BasicPolicy as B
 use Rattle.job_policy.proofs.BasicPolicy.Laws as B′
 use Rattle.reply.proofs.Reply as R
 use Rattle.reply.proofs.Reply.Laws as R′
-use Rattle.policy_calls.proofs.Work as K
-use Rattle.policy_calls.proofs.Work.Laws as K′
+use Rattle.job.proofs.policy.Work as K
+use Rattle.job.proofs.policy.Work.Laws as K′
 use Rattle.policy_calls.proofs.begin as begin
 use Rattle.policy_calls.proofs.begin.Symbol as begin-def
 use Rattle.policy_calls.proofs.begin.Symbol.{name as #begin}

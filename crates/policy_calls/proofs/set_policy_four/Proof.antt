@@ -17,5 +17,5 @@ set-policy-four-spec =
     (λ c.
     let f = c .before in
     simp (f .four .ensures, f .before .inherited-at .ensures, f .before .before .own-at .ensures) at
-    (c .finish .ensures)
+    (c .finish-four .ensures)
     ∙ one-pass _ _ _ _))

@@ -12,5 +12,6 @@ create-with-ext-spec =
     (λ c κs. search needs)
     (λ c κs. search needs)
     (λ c.
-    c .both-moved .ensures ∙ c .before .create-thread .ensures _
-    (sym (c .before .before .before .process-at .ensures)) (sym (c .before .before .thread-at .ensures))))
+    let a = c .before .before in
+    c .both-moved .ensures ∙ c .before .create-with-ext .ensures _ (sym (a .before .process-at .ensures))
+    (sym (a .thread-at .ensures))))

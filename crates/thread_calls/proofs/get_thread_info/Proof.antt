@@ -1,4 +1,4 @@
-use Rattle.thread_move.proofs.Moving.{whole}
+use mathlib.Core.Path.{sym, _∙_}
 use borrow.Author.Needs.{needs}
 use Rattle.thread_calls.proofs.get_thread_info.Statement.{statement}
 use Rattle.thread_calls.proofs.get_thread_info.Tie as tie
@@ -10,6 +10,5 @@ get-thread-info-spec =
     (λ c κs. search needs)
     (λ c κs. search needs)
     (λ c κs. search needs)
-    (λ c.
-    whole _ _ _ _ (c .moved .ensures) (c .before .get-thread-info .ensures)
-    (c .before .before .thread-at .ensures)))
+    (λ c. c .showing .ensures ∙ c .before .get-thread-info .ensures _
+    (sym (c .before .before .thread-at .ensures))))
