@@ -1,7 +1,7 @@
 // commands: the bytes of the recorder's commands: how many each has, and its operands, little-endian.
 // Past the end of its bytes a command has zeros: no reader relies on its caller.
 ghost use mathlib.Core.Path.{_≡_};
-ghost use Rattle.commands.specs.Commands.{byte, half, word, long, signed64, pairAt, pairsAt, fifteenAt};
+ghost use Rattle.commands.specs.Commands.{byte, half, word, long, signed64, pairAt, fifteenAt};
 ghost use Rattle.commands.specs.Commands.{sizeOf, nextOf};
 use job_policy::BasicPolicy;
 
@@ -88,13 +88,6 @@ pub fn fifteen_at(s: &[u8]) -> [BasicPolicy; 15]
     policies[2] = pair_at(s, 8);
     policies[3] = pair_at(s, 10);
     policies
-}
-
-// The four pairs of 0f, from byte 4.
-pub fn pairs_at(s: &[u8]) -> [BasicPolicy; 4]
-    ensures { λ r. ⌜ r ≡ pairsAt (now (s .entry)) ⌝ }
-{
-    [pair_at(s, 4), pair_at(s, 6), pair_at(s, 8), pair_at(s, 10)]
 }
 
 // -- A whole command -------------------------------------------------------------------------

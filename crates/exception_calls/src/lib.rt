@@ -1,22 +1,21 @@
-// exception_calls: the calls on exceptions and their channels, on the tables by value: 12 to 18. All but 14 and 15 read
-// the record that they name, ask crate exceptionate, and store what that gives. What each comes to is in
+// exception_calls: the calls on exceptions and their channels, on the tables by value: 12 to 18. Each reads the records
+// that it names, asks crate exception or exceptionate, and stores what that gives. What each comes to is in
 // model/specs/ExceptionCalls.antt.
 ghost use mathlib.Core.Path.{_≡_};
 ghost use Rattle.model.specs.ExceptionCalls.{bindLevel, hangUpLevel, raiseException, closeException};
 ghost use Rattle.model.specs.ExceptionCalls.{setState, setStrategy, getProcessHandle};
+ghost use Rattle.exception.specs.Raise.{raisedIn};
 ghost use Rattle.exceptionate.specs.Exceptionate.{onLevel, ofProcess, ofJob, movedJob};
 use error::Refusal;
+use exception::Raised;
 use exceptionate::ChannelCall;
 use exceptionate::JobMove;
 use reading::job_at;
 use reading::process_at;
 use reading::thread_at;
-use record_thread::FoundException;
-use record_thread::FoundThread;
+use record_thread::Thread;
 use records::tables::Tables;
 use reply::Reply;
-use routes::is_no_type;
-use routes::route_of;
 
 // -- Channels: the level picks the table -------------------------------------------------------
 
@@ -82,39 +81,47 @@ pub fn hang_up(t: Tables, level: u8, owner: u8) -> Reply
 
 // -- Raise and close ---------------------------------------------------------------------------
 
+// What 14 and 15 give, stored where it was; v is the thread. Where its process exits, that goes on.
+fn raised(mut t: Tables, thread: u8, v: Thread, m: Raised) -> Reply
+    ensures { λ r. ⌜ r ≡ raisedIn t thread v m ⌝ }
+{
+    let p = v.process % 64;
+    let w = m.thread;
+    let q = m.process;
+    let jobs = m.jobs;
+    let fields = m.fields;
+    t = t.with_thread(thread % 128, w);
+    t = t.with_process(p, q);
+    t.jobs = jobs;
+    if m.exits {
+        return Reply::with_fields(cascade::exit_listed(t, p), m.answer, fields);
+    }
+    Reply::with_fields(t, m.answer, fields)
+}
+
 // 14: `CurrentThread::handle_exception`.
 pub fn handle_exception(t: Tables, thread: u8, kind: u16) -> Reply
     ensures { λ r. ⌜ r ≡ raiseException t thread kind ⌝ }
 {
-    if is_no_type(route_of(kind)) {
-        return Reply::answered(t, Refusal::BAD_FIELD);
-    }
-    if 128 <= thread {
-        return Reply::answered(t, Refusal::PAST_TABLE);
-    }
-    let FoundThread::OldThread(v) = lookup::thread(t, thread) else {
-        return Reply::answered(t, Refusal::NOT_MADE);
-    };
-    if !v.is_free() {
-        return Reply::answered(t, Refusal::OUT_OF_TURN);
-    }
-    handling::raise(t, thread, kind)
+    let v = thread_at(t, thread % 128);
+    let q = process_at(t, v.process % 64);
+    let jobs = t.jobs;
+    raised(
+        t,
+        thread,
+        v,
+        exception::handle_exception(thread, kind, v, q, jobs),
+    )
 }
 
 // 15: the handler lets the exception object go.
 pub fn close(t: Tables, thread: u8) -> Reply
     ensures { λ r. ⌜ r ≡ closeException t thread ⌝ }
 {
-    if 128 <= thread {
-        return Reply::answered(t, Refusal::PAST_TABLE);
-    }
-    let FoundThread::OldThread(v) = lookup::thread(t, thread) else {
-        return Reply::answered(t, Refusal::NOT_MADE);
-    };
-    let FoundException::Held(e) = v.exception() else {
-        return Reply::answered(t, Refusal::OUT_OF_TURN);
-    };
-    handling::close(t, thread, e)
+    let v = thread_at(t, thread % 128);
+    let q = process_at(t, v.process % 64);
+    let jobs = t.jobs;
+    raised(t, thread, v, exception::close(thread, v, q, jobs))
 }
 
 // -- What a handler sets and asks while it has an exception --------------------------------------

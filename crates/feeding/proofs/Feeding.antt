@@ -18,12 +18,11 @@ use Rattle.job_policy.specs.declared.JobPolicy.{JobPolicy}
 use Rattle.records.specs.declared.tables.Tables.{Tables}
 use Rattle.reply.specs.declared.Fields.{Fields}
 use Rattle.reply.specs.declared.Reply.{Reply}
-use Rattle.model.specs.Step.{step}
 use Rattle.commands.specs.declared.Next.{Next}
 use Rattle.commands.specs.declared.Next.the-variants.{Wait, Stop, Whole}
 use Rattle.commands.specs.Commands.{nextOf}
 use Rattle.commands.proofs.Stays.{whole-bounds}
-use Rattle.calls.specs.Calls.{callIn}
+use Rattle.calls.specs.Calls.{callIn, perform}
 use Rattle.lines.specs.Line.{lineOf, Put}
 use Rattle.stream_state.specs.declared.State.{State}
 use Rattle.feeding.specs.declared.Fed.{Fed}
@@ -116,7 +115,7 @@ module _ (input out₀ out : List ℕ) (s₀ s : State) (at w : ℕ)
           lines = p .holds;
         })
 
-    pub goes : (n : ℕ) → x ≡ Whole n → (r : Reply) → r ≡ step (s .tables) (callIn (take n rest)) →
+    pub goes : (n : ℕ) → x ≡ Whole n → (r : Reply) → r ≡ perform (s .tables) (callIn (take n rest)) →
         {out′ : List ℕ} {w′ : ℕ} → Put out out′ w w′ (lineFor s r) →
         fed (length out₀) s₀ input
         ≡ ahead (at + n) (take w′ out′)
@@ -127,7 +126,7 @@ module _ (input out₀ out : List ℕ) (s₀ s : State) (at w : ℕ)
         let l : List ℕ = lineFor s r in
         let u : State = stateOf (r .tables) (nextNumber (s .number)) in
         let v : r ≡ replyTo s n a = re
-        ∙ ap (λ (l : List ℕ). step (s .tables) (callIn (take n l))) rest-is in
+        ∙ ap (λ (l : List ℕ). perform (s .tables) (callIn (take n l))) rest-is in
         let f : fed (length out₀ - w) s a
         ≡ ahead n l (fed ((length out₀ - w) - length l) u (drop n a)) =
         fed-is (length out₀ - w) s a

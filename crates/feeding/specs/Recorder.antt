@@ -9,11 +9,10 @@ use lib.ListN.{length, take, drop}
 use Rattle.laws.specs.Choice.{_<?_, if_then_else_}
 use Rattle.records.specs.declared.tables.Tables.{Tables}
 use Rattle.reply.specs.declared.Reply.{Reply}
-use Rattle.model.specs.Step.{step}
 use Rattle.commands.specs.declared.Next.{Next}
 use Rattle.commands.specs.declared.Next.the-variants.{Wait, Stop, Whole}
 use Rattle.commands.specs.Commands.{nextOf}
-use Rattle.calls.specs.Calls.{callIn}
+use Rattle.calls.specs.Calls.{callIn, perform}
 use Rattle.lines.specs.Line.{lineOf}
 use Rattle.stream_state.specs.declared.State.{State}
 use Rattle.stream_state.specs.State.{nextNumber, stateOf, stopAt}
@@ -23,7 +22,7 @@ use Rattle.feeding.specs.declared.Fed.{Fed}
 
 -- the command at the front has n bytes: its reply, the state after it, its line
 abbrev pub replyTo : State → ℕ → List ℕ → Reply
-replyTo s n bs = step (s .tables) (callIn (take n bs))
+replyTo s n bs = perform (s .tables) (callIn (take n bs))
 
 abbrev pub after : State → ℕ → List ℕ → State
 after s n bs = stateOf (replyTo s n bs .tables) (nextNumber (s .number))

@@ -6,10 +6,10 @@ use reading::job_at;
 use reading::process_at;
 use reading::thread_at;
 use record_exception::Level;
-use record_job::Job;
-use record_process::Process;
 use record_job::FoundJob;
+use record_job::Job;
 use record_process::FoundProcess;
+use record_process::Process;
 use record_thread::FoundThread;
 use records::tables::Tables;
 

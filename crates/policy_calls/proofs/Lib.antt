@@ -1,2 +1,1 @@
-pub mod Fold
 pub mod Walk

@@ -1,2 +1,4 @@
 -- What the proof of `feed` cites.
-pub mod Storing
+pub mod Sizes
+pub mod Turning
+pub mod Arms

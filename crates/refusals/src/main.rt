@@ -28,8 +28,11 @@ fn pair(condition: u8, action: u8) -> BasicPolicy {
 
 // Two entries, the first with condition 4 and Deny, by 0f.
 fn policy(t: Tables, job: u8, option: u8, condition: u8, action: u8) -> Reply {
-    let list = [pair(4, 1), pair(condition, action), pair(0, 0), pair(0, 0)];
-    policy_calls::set_policy_four(t, job, option, 2, list)
+    let none = pair(0, 0);
+    let mut list = [none; 15];
+    list[0] = pair(4, 1);
+    list[1] = pair(condition, action);
+    job_calls::set_policy(t, job, option, 2, list)
 }
 
 fn slack(t: Tables, job: u8, amount: i64, mode: u8) -> Reply {

@@ -18,12 +18,11 @@ use lib.Dec.{ltb}
 use lib.ListN.{length, take, drop, length-append, length-drop}
 use lib.Seq.{take-append-le, drop-append-le, drop-drop}
 use Rattle.laws.specs.Choice.{if_then_else_}
-use Rattle.model.specs.Step.{step}
 use Rattle.commands.specs.declared.Next.{Next}
 use Rattle.commands.specs.declared.Next.the-variants.{Wait, Stop, Whole}
 use Rattle.commands.specs.Commands.{nextOf}
 use Rattle.commands.proofs.Stays.{whole-bounds, left-less, front-stays}
-use Rattle.calls.specs.Calls.{callIn}
+use Rattle.calls.specs.Calls.{callIn, perform}
 use Rattle.stream_state.specs.declared.State.{State}
 use Rattle.stream_state.specs.State.{freshState, stopAt, closing}
 use Rattle.feeding.specs.Recorder.{replyTo, after, line, lineFor}
@@ -38,7 +37,7 @@ module _ (bs cs : List ℕ) where
   -- the reply to a whole command, whatever follows it
   reply-stays : (s : State) (n : ℕ) → nextOf bs ≡ Whole n → replyTo s n (bs ++ cs) ≡ replyTo s n bs
   reply-stays s n e =
-      ap (λ (l : List ℕ). step (s .tables) (callIn l)) (take-append-le n bs cs (whole-bounds bs n e .1))
+      ap (λ (l : List ℕ). perform (s .tables) (callIn l)) (take-append-le n bs cs (whole-bounds bs n e .1))
 
   drop-stays : (n : ℕ) → nextOf bs ≡ Whole n → drop n (bs ++ cs) ≡ drop n bs ++ cs
   drop-stays n e = drop-append-le n bs cs (whole-bounds bs n e .1)

@@ -10,7 +10,7 @@ use Rattle.records.specs.Tables.{freshTables}
 use Rattle.model.specs.Step.{Call, Shown, answers}
 use Rattle.commands.specs.declared.Next.the-variants.{Wait}
 use Rattle.commands.specs.Commands.{nextOf}
-use Rattle.calls.specs.Calls.{callIn}
+use Rattle.calls.specs.Calls.{Called, noCall, called, callIn}
 use Rattle.lines.specs.Line.{lineOf, stopLine}
 use Rattle.stream_state.specs.declared.State.{State}
 use Rattle.stream_state.specs.State.{nextNumber, freshState, stopAt, closing}
@@ -61,11 +61,16 @@ Drained s bs (call room ∷ es) =
 
 -- ---- As the model answers ------------------------------------------------------------------
 
+-- a call, if there is one
+unfoldable pub callsOf : Called → List Call
+callsOf noCall = []
+callsOf (called c) = c ∷ []
+
 -- the calls of a stream, up to its end or to what is no command
 unfoldable pub callsWithin : ℕ → List ℕ → List Call
 callsWithin zero bs = []
 callsWithin (suc f) bs =
-    onNext (nextOf bs) [] [] (λ n. callIn (take n bs) ∷ callsWithin f (drop n bs))
+    onNext (nextOf bs) [] [] (λ n. callsOf (callIn (take n bs)) ++ callsWithin f (drop n bs))
 
 unfoldable pub callsIn : List ℕ → List Call
 callsIn bs = callsWithin (suc (length bs)) bs

@@ -162,10 +162,7 @@ impl Token {
     pub fn new(k: SuspendToken, m: Task) -> Token
         ensures { λ r. ⌜ r ≡ token k m ⌝ }
     {
-        Token {
-            task: m,
-            token: k,
-        }
+        Token { task: m, token: k }
     }
 
     fn refused(k: SuspendToken, v: Thread, answer: i64) -> Token

@@ -1,27 +1,30 @@
-use Rattle.model.specs.ExceptionCalls.{closeException}
-use Rattle.model.proofs.Answering.{answering}
+use mathlib.Core.Path.{refl, sym, _∙_}
 use borrow.Author.Needs.{needs}
+use Rattle.laws.proofs.Loops.{length-mapped}
+use Rattle.records.specs.Tables.{Sized}
 use Rattle.exception_calls.proofs.close.Statement.{statement}
 use Rattle.exception_calls.proofs.close.Tie as tie
 
 pub close-spec : {M : Type 1} → statement M
-unfolding closeException
 close-spec =
     tie.close
     (tie.spec
     (λ c κs. search needs)
-    (λ c. search answering depth 20)
     (λ c κs. search needs)
-    (λ c. search needs)
-    (λ c. search needs)
     (λ c κs. search needs)
-    (λ c. search answering depth 20)
-    (λ c κs. search needs)
-    (λ c. search needs)
-    (λ c. search needs)
-    (λ c κs. search needs)
-    (λ c. search answering depth 20)
     (λ c κs. search needs)
     (λ c.
-    let b = c .before in
-    search (answering, c .close .ensures) depth 20))
+    let q = c .before .before .before in
+    let o = q .before .before .before .good .0 .1 .1 in
+    let t : Sized (q .before .before .before .args .t) =
+    record {
+      jobs = search (length-mapped, o .0);
+      own = search (length-mapped, o .1 .0);
+      inherited = search (length-mapped, o .1 .1 .0);
+      processes = search (length-mapped, o .1 .1 .1 .0);
+      fixed = search (length-mapped, o .1 .1 .1 .1 .0);
+      threads = search (length-mapped, o .1 .1 .1 .1 .1 .0);
+      tokens = search (length-mapped, o .1 .1 .1 .1 .1 .1 .0);
+    } in
+    c .raised .ensures
+    ∙ c .before .close .ensures _ t (sym (q .before .before .thread-at .ensures)) (sym (q .process-at .ensures)) refl))

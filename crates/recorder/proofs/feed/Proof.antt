@@ -1,41 +1,55 @@
--- `recorder::feed` meets its contract. The invariant: what is left to do from here, behind what is done,
--- is the whole (proofs/Feeding.antt). The measure is what is left of the input.
-use Prim.Native.Nat.{ℕ, _+_, _-_, _≤_, _<_}
+-- `recorder::feed` meets its contract. The invariant: what is left to do from here, behind what is done, is the whole
+-- (proofs/Turning.antt). Each arm is one turn, by the law of what it stores (proofs/Arms.antt).
+use Prim.Native.Nat.{ℕ, _+_, _-_, _≤_, _<_, _%_}
 use native.Mathlib.Nat.{sub-zero}
-use mathlib.Core.Path.{_≡_, refl, sym, ap, _∙_}
 use native.Mathlib.Omega.{arith}
+use mathlib.Core.Path.{_≡_, refl, sym, ap, _∙_}
+use mathlib.Core.Bool.{Bool, true, false}
 use mathlib.Core.List.{List}
+use lib.IntN.{ℤ}
 use lib.ListN.{length, take, drop, length-take, length-drop}
 use lib.Seq.{length-take-le}
 use borrow.Author.Needs.{needs}
+use borrow.Author.Tests.{eq-eqb, ne-eqb}
 use mir.Syntax.{w64}
 use mir.Val.{SFits}
 use mir.Facts.{toZ-ofZ}
+use Rattle.laws.specs.Choice.{_=?_, _and_, if_then_else_}
+use Rattle.laws.proofs.Loops.{length-mapped}
+use Rattle.laws.proofs.Flow.{told}
+use Rattle.job_policy.specs.declared.BasicPolicy.{BasicPolicy}
+use Rattle.job_policy.specs.declared.JobPolicy.{JobPolicy}
+use Rattle.record_process.specs.declared.Process.{Process}
+use Rattle.records.specs.declared.tables.Tables.{Tables}
+use Rattle.records.specs.Tables.{Sized, putJob, putOwn, putInherited, putProcess, putFixed, putThread, putToken}
+use Rattle.reply.specs.declared.Fields.{Fields}
+use Rattle.reply.specs.declared.Reply.{Reply}
+use Rattle.reply.specs.Reply.{reply, answered, showing}
+use Rattle.commands.specs.Commands.{fifteenAt}
+use Rattle.calls.specs.declared.Command.{Command}
+use Rattle.calls.specs.Calls.{Called, noCall, called, perform, callIn}
+use Rattle.calls.specs.Groups.{callOf, taskOf, taskName, jobCall}
+use Rattle.calls.proofs.Whole.{IsCall, is-call, whole-called, call-in}
+use Rattle.model.specs.Step.{step}
+use Rattle.job.specs.Job as jobs
+use Rattle.process.specs.Process as processes
+use Rattle.thread.specs.Pair.{bothMoved}
+use Rattle.lines.specs.Line.{lineOf, within, Put}
+use Rattle.lines.proofs.Puts.{roomy}
 use Rattle.stream_state.specs.declared.State.{State}
 use Rattle.stream_state.specs.State.{nextNumber, stateOf}
 use Rattle.feeding.specs.Recorder.{fed, ahead}
-use Rattle.lines.proofs.Puts.{roomy}
-use Rattle.laws.proofs.Loops.{length-mapped}
-use Rattle.records.specs.Tables.{Sized}
-use Rattle.slots.specs.declared.Slots.{Slots}
-use Rattle.deciding.specs.Deciding.{storedAt}
-use Rattle.reply.specs.Reply.{reply}
-use Rattle.records.specs.Tables.{putJob, putOwn, putInherited, putProcess, putFixed, putThread}
-use Rattle.records.specs.Tables.{putToken, withThreads}
-use Rattle.records.specs.declared.tables.Tables.{Tables}
-use Rattle.change.specs.declared.Change.{Change}
-use Rattle.change.specs.Change.{storingRecords, stored}
-use Rattle.recorder.proofs.Storing.{holds, holds-there, stored-sized, records-sized, spread-sized}
-use Rattle.recorder.proofs.Storing.{stored-alone, stored-spread}
-use Rattle.feeding.proofs.Feeding.{begins, full, waits, stops, goes, whole-fits, as-lined}
+use Rattle.feeding.proofs.Feeding.{begins, full, waits, stops}
+use Rattle.recorder.proofs.Sizes.{job-sized, own-sized, inherited-sized, process-sized, fixed-sized}
+use Rattle.recorder.proofs.Sizes.{thread-sized, token-sized, jobs-sized, threads-sized}
+use Rattle.recorder.proofs.Turning.{Held, rest, performed, turns, fits, some}
+use Rattle.recorder.proofs.Arms as arms
 use Rattle.recorder.proofs.feed.Statement.{statement}
 use Rattle.recorder.proofs.feed.Tie as tie
 
 abbrev Inv-loop : tie.InvT-loop
 Inv-loop input out₀ t₀ number₀ at₀ written₀ out t number at written =
-    Sized t × ((at ≤ length input) × ((written ≤ length out) × ((length out ≡ length out₀) ×
-    (fed (length out₀) (stateOf t₀ number₀) input
-    ≡ ahead at (take written out) (fed (length out₀ - written) (stateOf t number) (drop at input))))))
+    Held input out₀ (stateOf t₀ number₀) out t number at written
 
 abbrev μ-loop : tie.MeasureT-loop
 μ-loop input out₀ t₀ number₀ at₀ written₀ out t number at written = length input - at
@@ -108,194 +122,558 @@ returns-3 c =
       ((b, sym (length-take-le _ _ b)), l .loop .inv .1 .0),
     )
 
--- past the match, with the command's size: it lies within the input
-fits : (c : tie.After-n Inv-loop μ-loop) →
-    let l = c .before .before .before .before .before in
-    (0 < c .n .given .0 .0) × (l .loop .at + c .n .given .0 .0 ≤ length (input l))
-fits c =
-    let n = c .before .before in
-    let e = n .before .before in
-    let l = e .before in
-    whole-fits (input l) (out₀ l) (l .loop .out) (state l) (here l) (l .loop .at) (l .loop .written)
-    (l .loop .inv .1)
-    (e .if1 .left) _ (n .next-of .ensures) _ (c .n .given .1)
+-- where the command is known: its place, its size, and one turn of the loop
+abbrev Known : Type 0
+Known = tie.After-command-of Inv-loop μ-loop
 
--- where the command's size is known, from where its decision is numbered
-abbrev sized : tie.After-next-number2 Inv-loop μ-loop → tie.After-n Inv-loop μ-loop
-sized c = c .before .before .before .before .before .before .before .before .before .before .before
+abbrev loop : Known → tie.At-loop Inv-loop μ-loop
+loop c = c .before .before .before .before .before .before .before .before .before
 
-abbrev numbered : tie.After-job Inv-loop μ-loop → tie.After-next-number2 Inv-loop μ-loop
-numbered c = c .before .before .before .before .before .before .before .before .before .before
+abbrev size : Known → ℕ
+size c = c .before .before .before .before .n .given .0 .0
 
-abbrev numbered-3 : tie.After-t2 Inv-loop μ-loop → tie.After-next-number2 Inv-loop μ-loop
-numbered-3 c = c .before .before .before .before .before .before .before .before .before .before .before
+abbrev bytes : Known → List ℕ
+bytes c = take (size c) (rest (input (loop c)) (loop c .loop .at))
 
-abbrev lined : tie.After-token Inv-loop μ-loop → tie.After-put-line2 Inv-loop μ-loop
-lined c = c .before .before .before .before .before .before .before .before .before .before .before .before .before
+within-input : (c : Known) → loop c .loop .at + size c ≤ length (input (loop c))
+within-input c =
+    fits (input (loop c)) (out₀ (loop c)) (state (loop c)) (loop c .loop .out) (loop c .loop .t)
+    (loop c .loop .number) (loop c .loop .at) (loop c .loop .written) (loop c .loop .inv) (c .before
+    .before .before .before .before .before .before .before .if1 .left)
+    (c .before .before .before .before .before .before .next-of .ensures) (c .before .before .before
+    .before .n .given .1)
 
-abbrev numbered-2 : tie.After-token Inv-loop μ-loop → tie.After-next-number2 Inv-loop μ-loop
-numbered-2 c = lined c .before .before .before .before .before .before .before
+turn : (c : Known) {r : Reply} {y : Command} {a : ℤ} {f : Fields} {p : JobPolicy} {out′ : List ℕ} {w′ : ℕ} →
+    c .command-of .result ≡ y → r ≡ perform (loop c .loop .t) (callOf y (fifteenAt (bytes c))) → Sized (r
+    .tables) →
+    r .answer ≡ a → r .fields ≡ f → r .policy ≡ p →
+    Put (loop c .loop .out) out′ (loop c .loop .written) w′
+    (within (length (loop c .loop .out) - loop c .loop .written) (lineOf (c .before .next-number2 .result)
+    a f p)) →
+    w′ ≤ loop c .loop .written + 128 → length out′ ≡ length (loop c .loop .out) →
+    Held (input (loop c)) (out₀ (loop c)) (state (loop c)) out′ (r .tables) (c .before .next-number2
+    .result)
+    (loop c .loop .at + size c) w′
+turn c h e z ea ef ep put b k =
+    turns (input (loop c)) (out₀ (loop c)) (state (loop c)) (loop c .loop .out) (loop c .loop .t)
+    (loop c .loop .number) (loop c .loop .at) (loop c .loop .written) (loop c .loop .inv) (c .before
+    .before .before .before .before .before .before .before .if1 .left)
+    (c .before .before .before .before .before .before .next-of .ensures) (c .before .before .before
+    .before .n .given .1)
+    (e ∙ performed (loop c .loop .t) (rest (input (loop c)) (loop c .loop .at)) (size c)
+    (sym (c .before .before .before .before .before .before .next-of .ensures) ∙ c .before .before .before
+    .before .n .given .1) (c .command-of .ensures) h)
+    z (c .before .next-number2 .ensures) ea ef ep put b k
 
--- where the slots are known: they are within the tables
-abbrev placed : tie.After-job Inv-loop μ-loop → tie.After-slots-of Inv-loop μ-loop
-placed c = numbered c .before .before .before .before .before .before .before .before
+never-none : {x : Called} → IsCall x → x ≡ noCall → ⊥
+never-none (is-call c) e = let z : _≡_ {A = ℕ} 0 1 = cc in omega arith
 
--- decided from the records
+positive : (c : Known) → 0 < size c
+positive c =
+    some (input (loop c)) (out₀ (loop c)) (state (loop c)) (loop c .loop .out) (loop c .loop .t)
+    (loop c .loop .number) (loop c .loop .at) (loop c .loop .written) (loop c .loop .inv) (c .before
+    .before .before .before .before .before .before .before .if1 .left)
+    (c .before .before .before .before .before .before .next-of .ensures) (c .before .before .before
+    .before .n .given .1)
+
+-- a whole command is a call
+returns-4 : tie.Need-returns-4 Inv-loop μ-loop
+unfolding callOf
+returns-4 c =
+    absurd (never-none (whole-called _ _ (sym (c .before .before .before .before .before .before .before
+    .before .before .next-of .ensures) ∙ c .before .before .before .before .before .before .before .n
+    .given .1))
+    (call-in _ _ (sym (c .before .before .before .before .before .before .before .before .before .next-of
+    .ensures) ∙ c .before .before .before .before .before .before .before .n .given .1) ∙ sym (c .before
+    .before .before .command-of .ensures)
+    ∙ ap (λ (x : Command). callOf x (fifteenAt (bytes (c .before .before .before)))) (c .before .enum-told3
+    .given .1)))
+
+-- a level outside its list
 loop-again : tie.Need-loop-again Inv-loop μ-loop
-unfolding storedAt putJob putProcess putThread
+unfolding answered reply callOf perform
 loop-again c =
-    let p = c .before .before .before .before .before in
-    let m = numbered c in
-    let d = m .before in
-    let s = d .before .before .before .before .before .before .before in
-    let k = sized m in
-    let n = k .before .before in
-    let e = n .before .before in
-    let l = e .before in
-    let got : SFits w64 (d .decide .result .answer) = search (needs, d .decide .ok) in
-    let put = simp (m .next-number2 .ensures, toZ-ofZ {w = w64} got) at
-    (roomy (e .if1 .left) (p .put-line .ensures .0)) in
-    let z = holds-there (holds (l .loop .t) (s .slots-of .result) _ _ _ _ _ _ (l .loop .inv .0)
-    (s .slots-of .ensures .1))
-    (s .slots-of .ensures .0) in
-    let r = ap (λ (y : Slots). storedAt (l .loop .t) y (d .decide .result)) (s .slots-of .ensures .0)
-    ∙ d .decide .ensures (l .loop .t) z (p .before .before .before .before .if2 .taken) in
-    let g =
-    goes (input l) (out₀ l) (l .loop .out) (state l) (here l) (l .loop .at) (l .loop .written)
-    (l .loop .inv .1)
-    (e .if1 .left) _ (n .next-of .ensures) _ (k .n .given .1) _ r put in (
-      stored-sized (l .loop .t) (s .slots-of .result) (d .decide .result) (l .loop .inv .0),
-      (
-        fits k .1,
-        (
-          omega (arith, p .put-line .ensures .1, p .put-line .kept .0, e .if1 .left),
-          (p .put-line .kept .0 ∙ l .loop .inv .1 .1 .1 .0, rw (m .next-number2 .ensures) g),
-        ),
-      ),
-    )
+    let k = c .before .before .before .before .before .before in
+    let z = loop k .loop .inv .0 in
+    let t = loop k .loop .t in
+    let u = c .before .before .put-answer in
+    turn k (c .before .before .before .before .enum-told4 .given .1)
+    (arms.bad-level t _ _ _)
+    z
+    refl refl refl (u .ensures .0) (u .ensures .1) (u .kept .0)
 
--- a change: from the records stored, where the last of them is read
-abbrev sized-2 : tie.After-token Inv-loop μ-loop → tie.After-n Inv-loop μ-loop
-sized-2 c = sized (numbered-2 c)
-
-abbrev at-2 : tie.After-token Inv-loop μ-loop → tie.At-loop Inv-loop μ-loop
-at-2 c = sized-2 c .before .before .before .before .before
-
-abbrev change-2 : tie.After-token Inv-loop μ-loop → Change
-change-2 c = lined c .before .before .before .before .before .change-of .result
-
--- the reply of a change, whose tables are u
-came : (c : tie.After-token Inv-loop μ-loop) (u : Tables) →
-    let l = at-2 c in
-    let n = l .loop .at + sized-2 c .n .given .0 .0 in
-    let p = lined c in
-    stored (l .loop .t) (change-2 c) ≡ reply u (change-2 c .answer) (change-2 c .fields) →
-    fed (length (out₀ l)) (state l) (input l)
-    ≡ ahead n (take (p .put-line2 .result) (p .put-line2 .last .0))
-    (fed (length (out₀ l) - p .put-line2 .result) (stateOf u (nextNumber (l .loop .number))) (drop n (input l)))
-unfolding reply
-came c u h =
-    let p = lined c in
-    let o = p .before .before in
-    let w = o .before .before in
-    let d = w .before in
-    let m = d .before .before in
-    let k = sized m in
-    let n = k .before .before in
-    let e = n .before .before in
-    let l = e .before in
-    let got : SFits w64 (d .change-of .result .answer) = record { sfits = d .change-of .ok .1 .1 .1 .0 .1 } in
-    let put = as-lined _ (m .next-number2 .ensures) (toZ-ofZ {w = w64} got) (o .none .ensures)
-    (roomy (e .if1 .left) (p .put-line2 .ensures .0)) in
-    goes (input l) (out₀ l) (l .loop .out) (state l) (here l) (l .loop .at) (l .loop .written)
-    (l .loop .inv .1)
-    (e .if1 .left) _ (n .next-of .ensures) _ (k .n .given .1)
-    (reply u (d .change-of .result .answer) (d .change-of .result .fields))
-    (sym h ∙ d .change-of .ensures (w .if3 .taken)) put
-
--- with a change of each thread of a process
+-- a thread that finishes
 loop-again-2 : tie.Need-loop-again-2 Inv-loop μ-loop
-unfolding putJob putOwn putInherited putProcess putFixed putThread putToken
+unfolding answered reply callOf perform putThread
 loop-again-2 c =
-    let a = c .before .before .before .before in
-    let p = lined a in
-    let e = sized-2 a .before .before .before .before in
-    let l = at-2 a in (
-      spread-sized (l .loop .t) (change-2 a) (l .loop .inv .0) (c .each-thread .result) (c .each-thread .ensures),
-      (
-        fits (sized-2 a) .1,
-        (
-          omega (arith, p .put-line2 .ensures .1, p .put-line2 .kept .0, e .if1 .left),
-          (
-            p .put-line2 .kept .0 ∙ l .loop .inv .1 .1 .1 .0,
-            rw (numbered-2 a .next-number2 .ensures)
-                (came a (withThreads (storingRecords (l .loop .t) (change-2 a)) (c .each-thread .result))
-                (stored-spread (l .loop .t) (change-2 a) (c .before .before .if4 .taken) (c .each-thread .ensures))),
-          ),
-        ),
-      ),
-    )
+    let k = c .before .before .before .before .before .before .before .before .before .before .before
+    .before .before in
+    let z = loop k .loop .inv .0 in
+    let t = loop k .loop .t in
+    let u = c .before .before .before .before .put-answer2 in
+    turn k (c .before .before .before .before .before .before .before .before .before .before .before .c
+    .given .1)
+    (arms.thread-finishes t (c .before .before .before .before .before .before .before .before .before
+    .before .before .c .given .0 .1 .0) (c .before .before .before .before .before .before .before .before
+    .on-thread .result) (c .before .before .before .before .before .before .before .before .on-thread
+    .ensures t (arms.read-thread z _ _)) (c .before .if2 .taken) (c .remove-thread .ensures))
+    (record {
+      jobs = search (length-mapped, c .remove-thread .ok .1 .1 .0);
+      own = search (length-mapped, c .remove-thread .ok .1 .1 .1 .0);
+      inherited = search (length-mapped, c .remove-thread .ok .1 .1 .1 .1 .0);
+      processes = search (length-mapped, c .remove-thread .ok .1 .1 .1 .1 .1 .0);
+      fixed = search (length-mapped, c .remove-thread .ok .1 .1 .1 .1 .1 .1 .0);
+      threads = search (length-mapped, c .remove-thread .ok .1 .1 .1 .1 .1 .1 .1 .0);
+      tokens = search (length-mapped, c .remove-thread .ok .1 .1 .1 .1 .1 .1 .1 .1 .0);
+    })
+    (sym (toZ-ofZ {w = w64} (search (
+      needs,
+      c .before .before .before .before .before .before .before
+          .before .on-thread .ok,
+    )))) refl refl (u .ensures .0) (u .ensures .1) (u .kept .0)
 
--- with no other thread changed
+-- a thread
 loop-again-3 : tie.Need-loop-again-3 Inv-loop μ-loop
-unfolding putJob putOwn putInherited putProcess putFixed putThread putToken
+unfolding answered reply callOf perform putThread
 loop-again-3 c =
-    let a = c .before .before in
-    let p = lined a in
-    let e = sized-2 a .before .before .before .before in
-    let l = at-2 a in (
-      records-sized (l .loop .t) (change-2 a) (l .loop .inv .0),
-      (
-        fits (sized-2 a) .1,
-        (
-          omega (arith, p .put-line2 .ensures .1, p .put-line2 .kept .0, e .if1 .left),
-          (
-            p .put-line2 .kept .0 ∙ l .loop .inv .1 .1 .1 .0,
-            rw (numbered-2 a .next-number2 .ensures)
-                (came a (storingRecords (l .loop .t) (change-2 a))
-                (stored-alone (l .loop .t) (change-2 a) (c .if4 .left))),
-          ),
-        ),
-      ),
-    )
+    let k = c .before .before .before .before .before .before .before .before .before .before .before
+    .before in
+    let z = loop k .loop .inv .0 in
+    let t = loop k .loop .t in
+    let u = c .before .before .before .put-answer2 in
+    turn k (c .before .before .before .before .before .before .before .before .before .before .c .given .1)
+    (arms.thread-stays t (c .before .before .before .before .before .before .before .before .before .before
+    .c .given .0 .1 .0) (c .before .before .before .before .before .before .before .on-thread .result) (c
+    .before .before .before .before .before .before .before .on-thread .ensures t (arms.read-thread z _ _))
+    (c .if2 .left))
+    (thread-sized z _ _)
+    (sym (toZ-ofZ {w = w64} (search (
+      needs,
+      c .before .before .before .before .before .before .before
+          .on-thread .ok,
+    )))) refl refl (u .ensures .0) (u .ensures .1) (u .kept .0)
 
--- performed on the tables
+-- a process and a thread
 loop-again-4 : tie.Need-loop-again-4 Inv-loop μ-loop
+unfolding answered reply callOf perform bothMoved putProcess putThread
 loop-again-4 c =
-    let p = c .before .before .before in
-    let f = p .before .before .before .before in
-    let m = f .before .before .before .before in
-    let k = sized m in
-    let n = k .before .before in
-    let e = n .before .before in
-    let l = e .before in
-    let o = f .perform .ok .1 .1 .1 .1 .1 .0 .1 .1 in
-    let long : Sized (f .perform .result .tables) =
-    record {
-      jobs = search (length-mapped, o .0);
-      own = search (length-mapped, o .1 .0);
-      inherited = search (length-mapped, o .1 .1 .0);
-      processes = search (length-mapped, o .1 .1 .1 .0);
-      fixed = search (length-mapped, o .1 .1 .1 .1 .0);
-      threads = search (length-mapped, o .1 .1 .1 .1 .1 .0);
-      tokens = search (length-mapped, o .1 .1 .1 .1 .1 .1 .0);
-    } in
-    let got : SFits w64 (f .perform .result .answer) = search (needs, f .perform .ok) in
-    let put = simp (m .next-number2 .ensures, toZ-ofZ {w = w64} got) at
-    (roomy (e .if1 .left) (p .put-line3 .ensures .0)) in
-    let g =
-    goes (input l) (out₀ l) (l .loop .out) (state l) (here l) (l .loop .at) (l .loop .written)
-    (l .loop .inv .1)
-    (e .if1 .left) _ (n .next-of .ensures) _ (k .n .given .1) _ (f .perform .ensures) put in (
-      long,
-      (
-        fits k .1,
-        (
-          omega (arith, p .put-line3 .ensures .1, p .put-line3 .kept .0, e .if1 .left),
-          (p .put-line3 .kept .0 ∙ l .loop .inv .1 .1 .1 .0, rw (m .next-number2 .ensures) g),
-        ),
-      ),
+    let k = c .before .before .before .before .before .before .before .before .before .before .before
+    .before .before in
+    let z = loop k .loop .inv .0 in
+    let t = loop k .loop .t in
+    let u = c .before .before .put-answer3 in
+    turn k (c .before .before .before .before .before .before .before .before .before .before .before .c2
+    .given .1)
+    (c .before .before .before .before .before .before .before .on-pair .ensures t (arms.read-process z _
+    _) (arms.read-thread z _ _))
+    (thread-sized (process-sized z _ _) _ _)
+    (sym (toZ-ofZ {w = w64} (search (
+      needs,
+      c .before .before .before .before .before .before .before
+          .on-pair .ok,
+    )))) refl refl (u .ensures .0) (u .ensures .1) (u .kept .0)
+
+-- a process whose end stays with its record
+loop-again-5 : tie.Need-loop-again-5 Inv-loop μ-loop
+unfolding answered reply callOf perform putProcess
+loop-again-5 c =
+    let k = c .before .before .before .before .before .before .before .before .before .before .before
+    .before .before .before .before .before .before .before .before .before .before in
+    let z = loop k .loop .inv .0 in
+    let t = loop k .loop .t in
+    let u = c .before .before .before .before .before .before .before .before .before .put-answer4 in
+    turn k (c .before .before .before .before .before .before .before .before .before .before .before
+    .before .before .before .before .before .before .before .before .c3 .given .1)
+    (arms.process-ends t (c .before .before .before .before .before .before .before .before .before .before
+    .before .before .before .before .before .before .before .before .before .c3 .given .0 .1 .0) (c .before
+    .before .before .before .before .before .before .before .before .before .before .before .before
+    .on-process .result) (c .before .before .before .before .before .before .before .before .before .before
+    .before .before .before .on-process .ensures t (arms.read-process z _ _) (arms.read-job z _ _) (sym (c
+    .before .before .before .before .before .before .before .before .before .before .before .before .before
+    .before .before .is-above .ensures t refl))) z _ (c .before .before .before .before .before .before
+    .if3 .taken) (told (c .before .before .ends-here .ensures) (c .before .if4 .taken)) (c .ended .ensures))
+    (process-sized (process-sized z _ _) _ _)
+    (sym (toZ-ofZ {w = w64} (search (
+      needs,
+      c .before .before .before .before .before .before .before
+          .before .before .before .before .before .before .on-process .ok,
+    )))) refl refl (u .ensures .0) (u
+    .ensures .1) (u .kept .0)
+
+-- a process that exits
+loop-again-6 : tie.Need-loop-again-6 Inv-loop μ-loop
+unfolding answered reply callOf perform putProcess
+loop-again-6 c =
+    let k = c .before .before .before .before .before .before .before .before .before .before .before
+    .before .before .before .before .before .before .before .before .before .before in
+    let z = loop k .loop .inv .0 in
+    let t = loop k .loop .t in
+    let u = c .before .before .before .before .before .before .before .before .before .put-answer4 in
+    turn k (c .before .before .before .before .before .before .before .before .before .before .before
+    .before .before .before .before .before .before .before .before .c3 .given .1)
+    (arms.process-exits t (c .before .before .before .before .before .before .before .before .before
+    .before .before .before .before .before .before .before .before .before .before .c3 .given .0 .1 .0) (c
+    .before .before .before .before .before .before .before .before .before .before .before .before .before
+    .on-process .result) (c .before .before .before .before .before .before .before .before .before .before
+    .before .before .before .on-process .ensures t (arms.read-process z _ _) (arms.read-job z _ _) (sym (c
+    .before .before .before .before .before .before .before .before .before .before .before .before .before
+    .before .before .is-above .ensures t refl))) (c .before .before .before .before .before .before .if3
+    .taken) (c .exit-listed .ensures))
+    (record {
+      jobs = search (length-mapped, c .exit-listed .ok .1 .1 .0);
+      own = search (length-mapped, c .exit-listed .ok .1 .1 .1 .0);
+      inherited = search (length-mapped, c .exit-listed .ok .1 .1 .1 .1 .0);
+      processes = search (length-mapped, c .exit-listed .ok .1 .1 .1 .1 .1 .0);
+      fixed = search (length-mapped, c .exit-listed .ok .1 .1 .1 .1 .1 .1 .0);
+      threads = search (length-mapped, c .exit-listed .ok .1 .1 .1 .1 .1 .1 .1 .0);
+      tokens = search (length-mapped, c .exit-listed .ok .1 .1 .1 .1 .1 .1 .1 .1 .0);
+    })
+    (sym (toZ-ofZ {w = w64} (search (
+      needs,
+      c .before .before .before .before .before .before .before
+          .before .before .before .before .before .before .on-process .ok,
+    )))) refl refl (u .ensures .0) (u
+    .ensures .1) (u .kept .0)
+
+-- a process
+loop-again-7 : tie.Need-loop-again-7 Inv-loop μ-loop
+unfolding answered reply callOf perform putProcess
+loop-again-7 c =
+    let k = c .before .before .before .before .before .before .before .before .before .before .before
+    .before .before .before .before in
+    let z = loop k .loop .inv .0 in
+    let t = loop k .loop .t in
+    let u = c .before .before .before .put-answer4 in
+    turn k (c .before .before .before .before .before .before .before .before .before .before .before
+    .before .before .c3 .given .1)
+    (arms.process-stays t (c .before .before .before .before .before .before .before .before .before
+    .before .before .before .before .c3 .given .0 .1 .0) (c .before .before .before .before .before .before
+    .before .on-process .result) (c .before .before .before .before .before .before .before .on-process
+    .ensures t (arms.read-process z _ _) (arms.read-job z _ _) (sym (c .before .before .before .before
+    .before .before .before .before .before .is-above .ensures t refl))) (c .if3 .left))
+    (process-sized z _ _)
+    (sym (toZ-ofZ {w = w64} (search (
+      needs,
+      c .before .before .before .before .before .before .before
+          .on-process .ok,
+    )))) refl refl (u .ensures .0) (u .ensures .1) (u .kept .0)
+
+-- a job that is killed with others
+loop-again-8 : tie.Need-loop-again-8 Inv-loop μ-loop
+unfolding answered reply callOf perform putJob putOwn
+loop-again-8 c =
+    let k = c .before .before .before .before .before .before .before .before .before .before .before
+    .before .before .before .before .before .before .before .before .before in
+    let z = loop k .loop .inv .0 in
+    let t = loop k .loop .t in
+    let u = c .before .before .before .before .put-answer5 in
+    turn k (c .before .before .before .before .before .before .before .before .before .before .before
+    .before .before .before .before .before .before .before .c4 .given .1)
+    (arms.job-kills t (c .before .before .before .before .before .before .before .before .before .before
+    .before .before .before .before .before .before .before .before .c4 .given .0 .1 .0) (c .before .before
+    .before .before .before .before .before .before .before .on-job .result) (c .before .before .before
+    .before .before .before .before .before .before .on-job .ensures t (arms.read-job z _ _) (arms.read-own
+    z _ _) (arms.read-inherited z _ _) (sym (c .before .before .before .before .before .before .before
+    .before .before .before .before .before .before .before .stands-alone .ensures)) ∙ ap (λ (l : List
+    BasicPolicy). step t (jobCall (c .before .before .before .before .before .before .before .before
+    .before .before .before .before .before .before .before .before .before .before .c4 .given .0 .0) (c
+    .before .before .before .before .before .before .before .before .before .before .before .before .before
+    .before .before .before .before .before .c4 .given .0 .1 .0) l)) (c .before .before .before .before
+    .before .before .before .before .before .before .before .before .before .fifteen-at .ensures)) (c
+    .before .if5 .taken) (c .kill-job .ensures))
+    (record {
+      jobs = search (length-mapped, c .kill-job .ok .1 .1 .0);
+      own = search (length-mapped, c .kill-job .ok .1 .1 .1 .0);
+      inherited = search (length-mapped, c .kill-job .ok .1 .1 .1 .1 .0);
+      processes = search (length-mapped, c .kill-job .ok .1 .1 .1 .1 .1 .0);
+      fixed = search (length-mapped, c .kill-job .ok .1 .1 .1 .1 .1 .1 .0);
+      threads = search (length-mapped, c .kill-job .ok .1 .1 .1 .1 .1 .1 .1 .0);
+      tokens = search (length-mapped, c .kill-job .ok .1 .1 .1 .1 .1 .1 .1 .1 .0);
+    })
+    (sym (toZ-ofZ {w = w64} (search (
+      needs,
+      c .before .before .before .before .before .before .before
+          .before .before .on-job .ok,
+    )))) refl refl (u .ensures .0) (u .ensures .1) (u .kept .0)
+
+-- a job
+loop-again-9 : tie.Need-loop-again-9 Inv-loop μ-loop
+unfolding answered reply callOf perform putJob putOwn
+loop-again-9 c =
+    let k = c .before .before .before .before .before .before .before .before .before .before .before
+    .before .before .before .before .before .before .before .before in
+    let z = loop k .loop .inv .0 in
+    let t = loop k .loop .t in
+    let u = c .before .before .before .put-answer5 in
+    turn k (c .before .before .before .before .before .before .before .before .before .before .before
+    .before .before .before .before .before .before .c4 .given .1)
+    (arms.job-stays t (c .before .before .before .before .before .before .before .before .before .before
+    .before .before .before .before .before .before .before .c4 .given .0 .1 .0) (c .before .before .before
+    .before .before .before .before .before .on-job .result) (c .before .before .before .before .before
+    .before .before .before .on-job .ensures t (arms.read-job z _ _) (arms.read-own z _ _)
+    (arms.read-inherited z _ _) (sym (c .before .before .before .before .before .before .before .before
+    .before .before .before .before .before .stands-alone .ensures)) ∙ ap (λ (l : List BasicPolicy). step t
+    (jobCall (c .before .before .before .before .before .before .before .before .before .before .before
+    .before .before .before .before .before .before .c4 .given .0 .0) (c .before .before .before .before
+    .before .before .before .before .before .before .before .before .before .before .before .before .before
+    .c4 .given .0 .1 .0) l)) (c .before .before .before .before .before .before .before .before .before
+    .before .before .before .fifteen-at .ensures)) (c .if5 .left))
+    (own-sized (job-sized z _ _) _ _)
+    (sym (toZ-ofZ {w = w64} (search (
+      needs,
+      c .before .before .before .before .before .before .before
+          .before .on-job .ok,
+    )))) refl refl (u .ensures .0) (u .ensures .1) (u .kept .0)
+
+-- an exception that exits the process
+loop-again-10 : tie.Need-loop-again-10 Inv-loop μ-loop
+unfolding answered reply callOf perform putProcess putThread
+loop-again-10 c =
+    let k = c .before .before .before .before .before .before .before .before .before .before .before
+    .before .before .before .before .before .before .before .before in
+    let z = loop k .loop .inv .0 in
+    let t = loop k .loop .t in
+    let u = c .before .before .before .before .put-line in
+    turn k (c .before .before .before .before .before .before .before .before .before .before .before
+    .before .before .before .before .before .before .c5 .given .1)
+    (arms.raised-exits t (c .before .before .before .before .before .before .before .before .before .before
+    .before .before .before .before .before .before .before .c5 .given .0 .1 .0) _ (c .before .before
+    .before .before .before .before .before .before .before .before .before .on-exception .result) (c
+    .before .before .before .before .before .before .before .before .before .before .before .on-exception
+    .ensures t z (arms.read-thread z _ _) (arms.read-process z _ _) refl) (c .before .if6 .taken) (c
+    .exit-listed2 .ensures))
+    (record {
+      jobs = search (length-mapped, c .exit-listed2 .ok .1 .1 .0);
+      own = search (length-mapped, c .exit-listed2 .ok .1 .1 .1 .0);
+      inherited = search (length-mapped, c .exit-listed2 .ok .1 .1 .1 .1 .0);
+      processes = search (length-mapped, c .exit-listed2 .ok .1 .1 .1 .1 .1 .0);
+      fixed = search (length-mapped, c .exit-listed2 .ok .1 .1 .1 .1 .1 .1 .0);
+      threads = search (length-mapped, c .exit-listed2 .ok .1 .1 .1 .1 .1 .1 .1 .0);
+      tokens = search (length-mapped, c .exit-listed2 .ok .1 .1 .1 .1 .1 .1 .1 .1 .0);
+    })
+    (sym (toZ-ofZ {w = w64} (search (
+      needs,
+      c .before .before .before .before .before .before .before
+          .before .before .before .before .on-exception .ok,
+    )))) refl (sym (c .before .before .before .before
+    .before .before .none .ensures)) (u .ensures .0) (u .ensures .1) (u .kept .0)
+
+-- an exception
+loop-again-11 : tie.Need-loop-again-11 Inv-loop μ-loop
+unfolding answered reply callOf perform putProcess putThread
+loop-again-11 c =
+    let k = c .before .before .before .before .before .before .before .before .before .before .before
+    .before .before .before .before .before .before .before in
+    let z = loop k .loop .inv .0 in
+    let t = loop k .loop .t in
+    let u = c .before .before .before .put-line in
+    turn k (c .before .before .before .before .before .before .before .before .before .before .before
+    .before .before .before .before .before .c5 .given .1)
+    (arms.raised-stays t (c .before .before .before .before .before .before .before .before .before .before
+    .before .before .before .before .before .before .c5 .given .0 .1 .0) _ (c .before .before .before
+    .before .before .before .before .before .before .before .on-exception .result) (c .before .before
+    .before .before .before .before .before .before .before .before .on-exception .ensures t z
+    (arms.read-thread z _ _) (arms.read-process z _ _) refl) (c .if6 .left))
+    (jobs-sized (process-sized (thread-sized z _ _) _ _) _ (search (
+      length-mapped,
+      c .before .before
+          .before .before .before .before .before .before .before .before .on-exception .ok .1 .1 .1 .1 .1 .1 .1
+          .0,
+    )))
+    (sym (toZ-ofZ {w = w64} (search (
+      needs,
+      c .before .before .before .before .before .before .before
+          .before .before .before .on-exception .ok,
+    )))) refl (sym (c .before .before .before .before .before
+    .none .ensures)) (u .ensures .0) (u .ensures .1) (u .kept .0)
+
+-- each thread of a process
+loop-again-12 : tie.Need-loop-again-12 Inv-loop μ-loop
+unfolding answered reply callOf perform _and_ putToken
+loop-again-12 c =
+    let k = c .before .before .before .before .before .before .before .before .before .before .before
+    .before .before .before .before .before .before .before .before .before .before .before .before .before
+    .before .before in
+    let z = loop k .loop .inv .0 in
+    let t = loop k .loop .t in
+    let u = c .before .before .before .before .put-answer6 in
+    turn k (c .before .before .before .before .before .before .before .before .before .before .before
+    .before .before .before .before .before .before .before .before .before .before .before .before .before
+    .c6 .given .1)
+    (arms.task-each _ t (c .before .before .before .before .before .before .before .before .before .before
+    .before .before .before .before .before .before .before .before .before .before .before .before .before
+    .before .c6 .given .0 .1 .0) _ _ (c .before .before .before .before .before .before .before .before
+    .before .on-task .result)
+    (c .before .before .before .before .before .before .before .before .before .on-task .ensures t z
+    (arms.read-token z _ _) (arms.task-again _ _ _ _ (c .before .before .before .before .before .before
+    .before .before .before .before .before .before .before .before .before .before .before .before .before
+    .before .before .task-of .ensures)) (
+      arms.read-thread z _ _,
+      arms.read-process z _ _,
+      arms.read-job z _ _,
+      (λ _. arms.bars-it _ _ _ (c
+          .before .before .before .before .before .before .before .before .before .before .before .each-of
+          .ensures) (c .before .before .before .before .before .before .before .before .before .before
+          .each-unless .ensures)),
+    ) ∙ arms.task-call t _ _ _ _ _ (c .before .before .before .before .before
+    .before .before .before .before .before .before .before .before .before .before .before .before .before
+    .before .before .before .task-of .ensures)) (rw (
+      eq-eqb _ _ (c .before .before .before .before .before
+          .before .before .before .before .before .before .before .before .if7 .taken),
+      c .before .if8 .taken,
     )
+    refl) (c .before .before .before .before .before .before .before .before .before .before .before
+    .each-of .ensures) (c .before .before .before .before .before .before .before .before .before .before
+    .each-unless .ensures))
+    (token-sized (threads-sized z _ (search (
+      length-mapped,
+      c .before .before .before .before .before
+          .before .before .before .before .before .each-unless .ok .1 .1 .1 .1 .0,
+    ))) _ _)
+    (sym (toZ-ofZ {w = w64} (search (
+      needs,
+      c .before .before .before .before .before .before .before
+          .before .before .on-task .ok,
+    )))) refl refl (u .ensures .0) (u .ensures .1) (u .kept .0)
+
+-- a process whose threads stay
+loop-again-13 : tie.Need-loop-again-13 Inv-loop μ-loop
+unfolding answered reply callOf perform _and_ putToken putThread
+loop-again-13 c =
+    let k = c .before .before .before .before .before .before .before .before .before .before .before
+    .before .before .before .before .before .before .before .before .before .before .before .before .before
+    .before .before in
+    let z = loop k .loop .inv .0 in
+    let t = loop k .loop .t in
+    let u = c .before .before .before .before .put-answer6 in
+    turn k (c .before .before .before .before .before .before .before .before .before .before .before
+    .before .before .before .before .before .before .before .before .before .before .before .before .before
+    .c6 .given .1)
+    (arms.task-one _ t (c .before .before .before .before .before .before .before .before .before .before
+    .before .before .before .before .before .before .before .before .before .before .before .before .before
+    .before .c6 .given .0 .1 .0) _ _ (c .before .before .before .before .before .before .before .before
+    .before .on-task .result)
+    (c .before .before .before .before .before .before .before .before .before .on-task .ensures t z
+    (arms.read-token z _ _) (arms.task-again _ _ _ _ (c .before .before .before .before .before .before
+    .before .before .before .before .before .before .before .before .before .before .before .before .before
+    .before .before .task-of .ensures)) (
+      arms.read-thread z _ _,
+      arms.read-process z _ _,
+      arms.read-job z _ _,
+      (λ _. arms.bars-it _ _ _ (c
+          .before .before .before .before .before .before .before .before .before .before .before .each-of
+          .ensures) (c .before .before .before .before .before .before .before .before .before .before
+          .each-unless .ensures)),
+    ) ∙ arms.task-call t _ _ _ _ _ (c .before .before .before .before .before
+    .before .before .before .before .before .before .before .before .before .before .before .before .before
+    .before .before .before .task-of .ensures)) (rw (
+      eq-eqb _ _ (c .before .before .before .before .before
+          .before .before .before .before .before .before .before .before .if7 .taken),
+      c .before .if8 .left,
+    )
+    refl))
+    (token-sized (thread-sized z _ _) _ _)
+    (sym (toZ-ofZ {w = w64} (search (
+      needs,
+      c .before .before .before .before .before .before .before
+          .before .before .on-task .ok,
+    )))) refl refl (u .ensures .0) (u .ensures .1) (u .kept .0)
+
+-- a thread suspended or resumed
+loop-again-14 : tie.Need-loop-again-14 Inv-loop μ-loop
+unfolding answered reply callOf perform _and_ putToken putThread
+loop-again-14 c =
+    let k = c .before .before .before .before .before .before .before .before .before .before .before
+    .before .before .before .before .before .before .before .before .before .before .before in
+    let z = loop k .loop .inv .0 in
+    let t = loop k .loop .t in
+    let u = c .before .before .put-answer7 in
+    turn k (c .before .before .before .before .before .before .before .before .before .before .before
+    .before .before .before .before .before .before .before .before .before .c6 .given .1)
+    (arms.task-one _ t (c .before .before .before .before .before .before .before .before .before .before
+    .before .before .before .before .before .before .before .before .before .before .c6 .given .0 .1 .0) _
+    _ (c .before .before .before .before .before .before .before .before .on-task2 .result)
+    (c .before .before .before .before .before .before .before .before .on-task2 .ensures t z
+    (arms.read-token z _ _) (arms.task-again _ _ _ _ (c .before .before .before .before .before .before
+    .before .before .before .before .before .before .before .before .before .before .before .task-of
+    .ensures)) (
+      arms.read-thread z _ _,
+      arms.read-process z _ _,
+      arms.read-job z _ _,
+      (λ e. absurd (c .before .before
+          .before .before .before .before .before .before .before .if7 .left e)),
+    ) ∙ arms.task-call t _ _ _ _ _ (c
+    .before .before .before .before .before .before .before .before .before .before .before .before .before
+    .before .before .before .before .task-of .ensures)) (rw (ne-eqb _ _ (c .before .before .before .before
+    .before .before .before .before .before .if7 .left)) refl))
+    (token-sized (thread-sized z _ _) _ _)
+    (sym (toZ-ofZ {w = w64} (search (
+      needs,
+      c .before .before .before .before .before .before .before
+          .before .on-task2 .ok,
+    )))) refl refl (u .ensures .0) (u .ensures .1) (u .kept .0)
+
+-- what is shown
+loop-again-15 : tie.Need-loop-again-15 Inv-loop μ-loop
+unfolding answered reply callOf perform showing
+loop-again-15 c =
+    let k = c .before .before .before .before .before .before .before .before .before .before .before
+    .before .before .before .before .before in
+    let z = loop k .loop .inv .0 in
+    let t = loop k .loop .t in
+    let u = c .before .before .put-line2 in
+    turn k (c .before .before .before .before .before .before .before .before .before .before .before
+    .before .before .before .c7 .given .1)
+    (c .before .before .before .before .before .before .shows .ensures t (arms.read-thread z _ _)
+    (arms.read-process z _ _) (arms.read-fixed z _ _) (arms.read-job z _ _) (arms.read-own z _ _)
+    (arms.read-inherited z _ _))
+    z
+    (sym (toZ-ofZ {w = w64} (search (
+      needs,
+      c .before .before .before .before .before .before .shows
+          .ok,
+    )))) refl refl (u .ensures .0) (u .ensures .1) (u .kept .0)
+
+-- a job made
+loop-again-16 : tie.Need-loop-again-16 Inv-loop μ-loop
+unfolding answered reply callOf perform step jobs.madeIn putJob putInherited
+loop-again-16 c =
+    let k = c .before .before .before .before .before .before .before .before .before .before .before
+    .before .before .before .before .before in
+    let z = loop k .loop .inv .0 in
+    let t = loop k .loop .t in
+    let u = c .before .before .put-answer8 in
+    turn k (c .before .before .before .before .before .before .before .before .before .before .before
+    .before .before .before .a .given .1)
+    (c .before .before .before .before .before .before .before .create-child .ensures t (arms.read-job z _
+    _) (arms.read-own z _ _) (arms.read-inherited z _ _) (arms.read-job z _ _) (arms.read-inherited z _ _))
+    (inherited-sized (job-sized z _ _) _ _)
+    (sym (toZ-ofZ {w = w64} (search (
+      needs,
+      c .before .before .before .before .before .before .before
+          .create-child .ok,
+    )))) refl refl (u .ensures .0) (u .ensures .1) (u .kept .0)
+
+-- a process made
+loop-again-17 : tie.Need-loop-again-17 Inv-loop μ-loop
+unfolding answered reply callOf perform step processes.madeIn putProcess putFixed
+loop-again-17 c =
+    let k = c .before .before .before .before .before .before .before .before .before .before .before
+    .before .before .before .before .before in
+    let z = loop k .loop .inv .0 in
+    let t = loop k .loop .t in
+    let u = c .before .before .put-answer9 in
+    turn k (c .before .before .before .before .before .before .before .before .before .before .before
+    .before .before .before .a2 .given .1)
+    (c .before .before .before .before .before .before .before .create-with-ext .ensures t (arms.read-job z
+    _ _) (arms.read-own z _ _) (arms.read-inherited z _ _) (arms.read-process z _ _) (arms.read-fixed z _
+    _))
+    (fixed-sized (process-sized z _ _) _ _)
+    (sym (toZ-ofZ {w = w64} (search (
+      needs,
+      c .before .before .before .before .before .before .before
+          .create-with-ext .ok,
+    )))) refl refl (u .ensures .0) (u .ensures .1) (u .kept .0)
 
 pub feed-spec : {M : Type 1} → statement M
 feed-spec =
@@ -320,45 +698,269 @@ feed-spec =
     (λ c κs. tt)
     (λ c κs. tt)
     (λ c κs. tt)
-    (λ c. c .before .before .before .put-stop .kept .0 ∙ c .before .before .before .before .before
-    .before .before .before .before .before .before .loop .inv .1 .1 .1 .0)
+    (λ c. c .before .before .before .put-stop .kept .0 ∙ c .before .before .before .before .before .before
+    .before .before .before .before .before .loop .inv .1 .1 .1 .0)
     returns-3
     (λ c. search needs)
-    (λ c. simp (length-take, length-drop) (omega (arith, fits (c .before .before) .1)))
-    (λ c κs. tt)
-    (λ c. search needs)
-    (λ c. search needs)
-    (λ c. search needs)
-    (λ c. search needs)
-    (λ c. search needs)
-    (λ c. search needs)
-    (λ c. search needs)
-    (λ c. search needs)
-    (λ c. search needs)
-    (λ c. search needs)
-    (λ c. search needs)
-    (λ c. search needs)
-    (λ c κs. tt)
+    (λ c. simp (length-take, length-drop) (omega (
+      arith,
+      fits (input (c .before .before .before .before
+          .before .before .before)) (out₀ (c .before .before .before .before .before .before .before)) (state (c
+          .before .before .before .before .before .before .before)) (c .before .before .before .before .before
+          .before .before .loop .out) (c .before .before .before .before .before .before .before .loop .t) (c
+          .before .before .before .before .before .before .before .loop .number) (c .before .before .before
+          .before .before .before .before .loop .at) (c .before .before .before .before .before .before .before
+          .loop .written) (c .before .before .before .before .before .before .before .loop .inv) (c .before
+          .before .before .before .before .before .if1 .left) (c .before .before .before .before .next-of
+          .ensures) (c .before .before .n .given .1),
+    )))
     (λ c κs. tt)
     (λ c. omega (
       arith,
-      fits (sized c) .1,
-      sized c .before .before .before .before .before .before .before .before .before .good .1 .0 .0,
+      fits (input (c .before .before .before .before .before .before .before .before))
+          (out₀ (c .before .before .before .before .before .before .before .before)) (state (c .before .before
+          .before .before .before .before .before .before)) (c .before .before .before .before .before .before
+          .before .before .loop .out) (c .before .before .before .before .before .before .before .before .loop
+          .t) (c .before .before .before .before .before .before .before .before .loop .number) (c .before
+          .before .before .before .before .before .before .before .loop .at) (c .before .before .before .before
+          .before .before .before .before .loop .written) (c .before .before .before .before .before .before
+          .before .before .loop .inv) (c .before .before .before .before .before .before .before .if1 .left) (c
+          .before .before .before .before .before .next-of .ensures) (c .before .before .before .n .given .1),
+      c
+          .before .before .before .before .before .before .before .before .before .before .before .before .good
+          .1 .0 .0,
     ))
     (λ c κs. tt)
-    (λ c. omega (arith, placed c .slots-of .ensures .1 .0))
-    (λ c. omega (arith, placed c .slots-of .ensures .1 .0))
-    (λ c. omega (arith, placed c .slots-of .ensures .1 .1 .0))
-    (λ c. omega (arith, placed c .slots-of .ensures .1 .1 .0))
-    (λ c. omega (arith, placed c .slots-of .ensures .1 .1 .1))
-    (λ c. omega (arith, placed c .slots-of .ensures .1 .1 .1))
-    (λ c. omega (arith, fits (sized (numbered c)) .0, fits (sized (numbered c)) .1))
+    (λ c. search needs)
+    (λ c κs. tt)
+    (λ c. c .before .before .before .before .before .before .before .before .before .before .before .before
+    .loop .inv .1 .1 .1 .0)
+    returns-4
+    (λ c. search needs)
+    (λ c κs. tt)
+    (λ c. omega (
+      arith,
+      positive (c .before .before .before .before .before .before),
+      within-input (c
+          .before .before .before .before .before .before),
+    ))
     loop-again
-    (λ c κs. tt)
-    (λ c κs. tt)
+    (λ c. search needs)
+    (λ c. search needs)
+    (λ c. search needs)
+    (λ c. search needs)
     (λ c κs. tt)
     (λ c. search needs)
     (λ c. search needs)
+    (λ c κs. tt)
+    (λ c κs. search needs)
+    (λ c. omega (
+      arith,
+      positive (c .before .before .before .before .before .before .before .before .before
+          .before .before .before .before),
+      within-input (c .before .before .before .before .before .before
+          .before .before .before .before .before .before .before),
+    ))
+    loop-again-2
+    (λ c. omega (
+      arith,
+      positive (c .before .before .before .before .before .before .before .before .before
+          .before .before .before),
+      within-input (c .before .before .before .before .before .before .before
+          .before .before .before .before .before),
+    ))
+    loop-again-3
+    (λ c. search needs)
+    (λ c. search needs)
+    (λ c. search needs)
+    (λ c. search needs)
+    (λ c. search needs)
+    (λ c. search needs)
+    (λ c. search needs)
+    (λ c κs. tt)
+    (λ c. search needs)
+    (λ c. search needs)
+    (λ c. search needs)
+    (λ c. search needs)
+    (λ c κs. tt)
+    (λ c. omega (
+      arith,
+      positive (c .before .before .before .before .before .before .before .before .before
+          .before .before .before .before),
+      within-input (c .before .before .before .before .before .before
+          .before .before .before .before .before .before .before),
+    ))
+    loop-again-4
+    (λ c. search needs)
+    (λ c. search needs)
+    (λ c. search needs)
+    (λ c. search needs)
+    (λ c. search needs)
+    (λ c κs. search needs)
+    (λ c. search needs)
+    (λ c. search needs)
+    (λ c κs. tt)
+    (λ c. search needs)
+    (λ c. search needs)
+    (λ c κs. tt)
+    (λ c. search needs)
+    (λ c. search needs)
+    (λ c. search needs)
+    (λ c κs. search needs)
+    (λ c κs. tt)
+    (λ c. search needs)
+    (λ c. search needs)
+    (λ c. omega (
+      arith,
+      positive (c .before .before .before .before .before .before .before .before .before
+          .before .before .before .before .before .before .before .before .before .before .before .before),
+      within-input (c .before .before .before .before .before .before .before .before .before .before .before
+          .before .before .before .before .before .before .before .before .before .before),
+    ))
+    loop-again-5
+    (λ c κs. search needs)
+    (λ c. omega (
+      arith,
+      positive (c .before .before .before .before .before .before .before .before .before
+          .before .before .before .before .before .before .before .before .before .before .before .before),
+      within-input (c .before .before .before .before .before .before .before .before .before .before .before
+          .before .before .before .before .before .before .before .before .before .before),
+    ))
+    loop-again-6
+    (λ c. omega (
+      arith,
+      positive (c .before .before .before .before .before .before .before .before .before
+          .before .before .before .before .before .before),
+      within-input (c .before .before .before .before
+          .before .before .before .before .before .before .before .before .before .before .before),
+    ))
+    loop-again-7
+    (λ c. search needs)
+    (λ c. search needs)
+    (λ c κs. search needs)
+    (λ c κs. tt)
+    (λ c. search needs)
+    (λ c. search needs)
+    (λ c. search needs)
+    (λ c. search needs)
+    (λ c. search needs)
+    (λ c. search needs)
+    (λ c κs. search needs)
+    (λ c. search needs)
+    (λ c. search needs)
+    (λ c. search needs)
+    (λ c. search needs)
+    (λ c κs. tt)
+    (λ c κs. search needs)
+    (λ c. omega (
+      arith,
+      positive (c .before .before .before .before .before .before .before .before .before
+          .before .before .before .before .before .before .before .before .before .before .before),
+      within-input
+          (c .before .before .before .before .before .before .before .before .before .before .before .before
+          .before .before .before .before .before .before .before .before),
+    ))
+    loop-again-8
+    (λ c. omega (
+      arith,
+      positive (c .before .before .before .before .before .before .before .before .before
+          .before .before .before .before .before .before .before .before .before .before),
+      within-input (c
+          .before .before .before .before .before .before .before .before .before .before .before .before .before
+          .before .before .before .before .before .before),
+    ))
+    loop-again-9
+    (λ c. search needs)
+    (λ c. search needs)
+    (λ c. search needs)
+    (λ c. search needs)
+    (λ c. search needs)
+    (λ c. search needs)
+    (λ c. search needs)
+    (λ c κs. search needs)
+    (λ c. search needs)
+    (λ c. search needs)
+    (λ c. search needs)
+    (λ c. search needs)
+    (λ c κs. tt)
+    (λ c κs. tt)
+    (λ c κs. search needs)
+    (λ c. omega (
+      arith,
+      positive (c .before .before .before .before .before .before .before .before .before
+          .before .before .before .before .before .before .before .before .before .before),
+      within-input (c
+          .before .before .before .before .before .before .before .before .before .before .before .before .before
+          .before .before .before .before .before .before),
+    ))
+    loop-again-10
+    (λ c. omega (
+      arith,
+      positive (c .before .before .before .before .before .before .before .before .before
+          .before .before .before .before .before .before .before .before .before),
+      within-input (c .before
+          .before .before .before .before .before .before .before .before .before .before .before .before .before
+          .before .before .before .before),
+    ))
+    loop-again-11
+    (λ c. search needs)
+    (λ c. search needs)
+    (λ c. search needs)
+    (λ c. search needs)
+    (λ c κs. tt)
+    (λ c. search needs)
+    (λ c. search needs)
+    (λ c. search needs)
+    (λ c. search needs)
+    (λ c. search needs)
+    (λ c. search needs)
+    (λ c. search needs)
+    (λ c. search needs)
+    (λ c. search needs)
+    (λ c κs. tt)
+    (λ c κs. search needs)
+    (λ c κs. tt)
+    (λ c. search needs)
+    (λ c. search needs)
+    (λ c κs. tt)
+    (λ c. omega (
+      arith,
+      positive (c .before .before .before .before .before .before .before .before .before
+          .before .before .before .before .before .before .before .before .before .before .before .before .before
+          .before .before .before .before),
+      within-input (c .before .before .before .before .before .before
+          .before .before .before .before .before .before .before .before .before .before .before .before .before
+          .before .before .before .before .before .before .before),
+    ))
+    loop-again-12
+    (λ c. search needs)
+    (λ c. search needs)
+    (λ c. omega (
+      arith,
+      positive (c .before .before .before .before .before .before .before .before .before
+          .before .before .before .before .before .before .before .before .before .before .before .before .before
+          .before .before .before .before),
+      within-input (c .before .before .before .before .before .before
+          .before .before .before .before .before .before .before .before .before .before .before .before .before
+          .before .before .before .before .before .before .before),
+    ))
+    loop-again-13
+    (λ c κs. tt)
+    (λ c. search needs)
+    (λ c. search needs)
+    (λ c. search needs)
+    (λ c. search needs)
+    (λ c κs. tt)
+    (λ c. omega (
+      arith,
+      positive (c .before .before .before .before .before .before .before .before .before
+          .before .before .before .before .before .before .before .before .before .before .before .before
+          .before),
+      within-input (c .before .before .before .before .before .before .before .before .before
+          .before .before .before .before .before .before .before .before .before .before .before .before
+          .before),
+    ))
+    loop-again-14
     (λ c. search needs)
     (λ c. search needs)
     (λ c. search needs)
@@ -376,15 +978,69 @@ feed-spec =
     (λ c. search needs)
     (λ c. search needs)
     (λ c κs. search needs)
+    (λ c κs. tt)
     (λ c. omega (
       arith,
-      fits (sized-2 (c .before .before .before .before)) .0,
-      fits (sized-2 (c .before .before .before .before)) .1,
+      positive (c .before .before .before .before .before .before .before .before .before
+          .before .before .before .before .before .before .before),
+      within-input (c .before .before .before
+          .before .before .before .before .before .before .before .before .before .before .before .before
+          .before),
     ))
-    loop-again-2
-    (λ c. omega (arith, fits (sized-2 (c .before .before)) .0, fits (sized-2 (c .before .before)) .1))
-    loop-again-3
+    loop-again-15
+    (λ c. search needs)
+    (λ c. search needs)
+    (λ c. search needs)
+    (λ c. search needs)
+    (λ c. search needs)
+    (λ c. search needs)
+    (λ c. search needs)
+    (λ c. search needs)
+    (λ c. search needs)
+    (λ c. search needs)
+    (λ c. search needs)
+    (λ c. search needs)
+    (λ c. search needs)
     (λ c κs. tt)
+    (λ c. search needs)
+    (λ c. search needs)
+    (λ c. search needs)
+    (λ c. search needs)
     (λ c κs. tt)
-    (λ c. omega (arith, fits (sized (numbered-3 c)) .0, fits (sized (numbered-3 c)) .1))
-    loop-again-4)
+    (λ c. omega (
+      arith,
+      positive (c .before .before .before .before .before .before .before .before .before
+          .before .before .before .before .before .before .before),
+      within-input (c .before .before .before
+          .before .before .before .before .before .before .before .before .before .before .before .before
+          .before),
+    ))
+    loop-again-16
+    (λ c. search needs)
+    (λ c. search needs)
+    (λ c. search needs)
+    (λ c. search needs)
+    (λ c. search needs)
+    (λ c. search needs)
+    (λ c. search needs)
+    (λ c. search needs)
+    (λ c. search needs)
+    (λ c. search needs)
+    (λ c. search needs)
+    (λ c. search needs)
+    (λ c. search needs)
+    (λ c κs. tt)
+    (λ c. search needs)
+    (λ c. search needs)
+    (λ c. search needs)
+    (λ c. search needs)
+    (λ c κs. tt)
+    (λ c. omega (
+      arith,
+      positive (c .before .before .before .before .before .before .before .before .before
+          .before .before .before .before .before .before .before),
+      within-input (c .before .before .before
+          .before .before .before .before .before .before .before .before .before .before .before .before
+          .before),
+    ))
+    loop-again-17)

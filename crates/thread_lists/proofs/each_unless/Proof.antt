@@ -41,16 +41,18 @@ each-unless-spec =
     (λ c.
     let b = c .before .before in
     let o = b .before .before in
-    let l = o .before .before .before in
-    (search (needs, length-set),
-    goes-on _ _ _ _ _ _ (l .loop .inv) (o .before .before .loop-test .taken) (o .thread-of .ensures) (b .before .if1 .taken)
-    (b .bars .ensures) (c .before .if2 .left) (c .one-of .ensures)))
+    let l = o .before .before .before in (
+      search (needs, length-set),
+      goes-on _ _ _ _ _ _ (l .loop .inv) (o .before .before .loop-test .taken) (o .thread-of .ensures) (b .before .if1 .taken)
+          (b .bars .ensures) (c .before .if2 .left) (c .one-of .ensures),
+    ))
     (λ c. search needs)
     (λ c. search needs)
     (λ c.
     let o = c .before in
-    let l = o .before .before .before in
-    (l .loop .inv .0,
-    passes _ _ _ _ _ _ (l .loop .inv) (o .before .before .loop-test .taken) (o .thread-of .ensures) (c .if1 .left)))
+    let l = o .before .before .before in (
+      l .loop .inv .0,
+      passes _ _ _ _ _ _ (l .loop .inv) (o .before .before .loop-test .taken) (o .thread-of .ensures) (c .if1 .left),
+    ))
     (λ c κs. search needs)
     (λ c. c .new2 .ensures ∙ ends _ _ _ _ _ _ (c .before .before .loop .inv) (c .before .loop-test .left)))

@@ -1,3 +1,0 @@
-mod Reading
-pub mod Storing
-pub mod Found

@@ -1,3 +1,0 @@
-mod Delivering
-mod Meaning
-mod Upward

@@ -1,2 +1,0 @@
-pub mod Threads
-mod Laws
