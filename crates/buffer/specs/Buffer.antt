@@ -4,7 +4,7 @@ use mathlib.Core.Path.{_≡_}
 use mathlib.Core.Bool.{Bool, not}
 use mathlib.Core.List.{List}
 use lib.ListN.{take, drop}
-use Rattle.feeding.specs.Recorder.{Part}
+use Rattle.stream_state.specs.Recorder.{Part}
 use Rattle.buffer.specs.declared.Progress.{Progress}
 
 -- p is the part of the first `have` bytes of buf: its lines are what is handed to the writer, and the

@@ -4,7 +4,7 @@ ghost use Prim.Native.Nat.{_-_, _≤_, min};
 ghost use mathlib.Core.Path.{_≡_};
 ghost use lib.ListN.{length, take, drop};
 ghost use Rattle.io.specs.Counts.{Counts};
-ghost use Rattle.feeding.specs.Recorder.{fed};
+ghost use Rattle.stream_state.specs.Recorder.{fed};
 ghost use Rattle.buffer.specs.Buffer.{Advances};
 use stream_state::State;
 

@@ -6,18 +6,19 @@ ghost use Rattle.record_job.specs.Job.{childOf};
 ghost use Rattle.record_process.specs.Process.{memberOf};
 ghost use Rattle.lists.specs.Next.{next};
 ghost use Rattle.model.specs.Job.{isLiveJob, isLiveProcess, killJob, exitProcess, endProcess};
-ghost use Rattle.model.specs.Job.{listsThread, stopThreads, exitListed, removeThread, finishThread};
+ghost use Rattle.model.specs.Job.{listsThread, stopThreads, exitListed, removeThread};
 ghost use Rattle.cascade.specs.Ends.{endsAlone, endsHere};
-use reading::job_at;
-use reading::process_at;
-use reading::thread_at;
 use record_job::Job;
 use record_process::Critical;
 use record_process::Process;
 use record_process::Status;
 use record_thread::Thread;
+use records::reading::job_at;
+use records::reading::process_at;
 use records::tables::Tables;
 use thread_lists::Each;
+
+pub mod terminate;
 
 // -- Tests ---------------------------------------------------------------------------------
 
@@ -88,8 +89,8 @@ pub fn kill_job(mut t: Tables, j: u8) -> Tables
         return t;
     }
     t = t.with_job(j, job.killed());
-    if job_lists::job_empty(t, j) {
-        return job_lists::terminate_job(t, j);
+    if terminate::job_empty(t, j) {
+        return terminate::terminate_job(t, j);
     }
     let mut c = child_from(t, j, 0);
     while c < 32 {
@@ -120,14 +121,14 @@ pub fn exit_process(mut t: Tables, p: u8, code: i64) -> Tables
 }
 
 // `Process::terminate`: the process leaves its job's list, and the job that it is bound to is killed.
-pub fn end_process(mut t: Tables, p: u8) -> Tables
+fn end_process(mut t: Tables, p: u8) -> Tables
     ensures { λ r. ⌜ r ≡ endProcess t p ⌝ }
 {
     let process = process_at(t, p);
     let status = process.status;
     let critical = process.critical;
     let code = status.code();
-    t = job_lists::unlist_process(t, p);
+    t = terminate::unlist_process(t, p);
     match critical {
         Critical::Free => t,
         Critical::To { job, nonzero } => {
@@ -184,16 +185,4 @@ pub fn exit_listed(t: Tables, p: u8) -> Tables
         return stop_threads(t, p);
     }
     end_process(t, p)
-}
-// `Thread::terminate` and `Process::remove_thread`: the process ends when its last listed thread finishes.
-pub fn finish_thread(mut t: Tables, n: u8) -> Tables
-    ensures { λ r. ⌜ r ≡ finishThread t n ⌝ }
-{
-    let thread = thread_at(t, n);
-    t = t.with_thread(n, thread.finish());
-    let process = thread.process;
-    if lists_thread(t, process) {
-        return t;
-    }
-    end_process(t, process)
 }

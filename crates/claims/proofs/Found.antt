@@ -21,10 +21,10 @@ use Rattle.reply.specs.declared.Reply.{Reply}
 use Rattle.reply.specs.Reply.{answered}
 use Rattle.records.specs.Tables.{jobAt, processAt, threadAt, tokenAt, foundJob, foundProcess}
 use Rattle.records.specs.Tables.{foundThread, foundToken}
-use Rattle.owners.specs.declared.FoundTask.{FoundTask}
-use Rattle.owners.specs.declared.FoundTask.the-variants.{NoTask, OldTask}
-use Rattle.owners.specs.Owners.{foundTask, levelOfThread, levelOfProcess, levelOfJob, processLevel}
-use Rattle.owners.specs.Owners.{jobLevel}
+use Rattle.records.specs.declared.owners.FoundTask.{FoundTask}
+use Rattle.records.specs.declared.owners.FoundTask.the-variants.{NoTask, OldTask}
+use Rattle.records.specs.Owners.{foundTask, levelOfThread, levelOfProcess, levelOfJob, processLevel}
+use Rattle.records.specs.Owners.{jobLevel}
 use Rattle.model.specs.Replies.{call, accept, oldJob, oldProcess, oldThread, oldToken}
 use Rattle.model.specs.Replies.{oldLevel, oldTask, heldException, job, process, thread}
 use Rattle.model.specs.Replies.{token, task, exception}

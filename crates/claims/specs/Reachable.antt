@@ -18,8 +18,8 @@ use Rattle.record_token.specs.SuspendToken.{noToken}
 use Rattle.records.specs.declared.tables.Tables.{Tables}
 use Rattle.records.specs.Tables.{jobAt, ownAt, inheritedAt, processAt, fixedAt, threadAt, tokenAt}
 use Rattle.records.specs.Tables.{freshTables, Sized}
-use Rattle.owners.specs.declared.FoundTask.the-variants.{OldTask}
-use Rattle.owners.specs.Owners.{foundTask}
+use Rattle.records.specs.declared.owners.FoundTask.the-variants.{OldTask}
+use Rattle.records.specs.Owners.{foundTask}
 use Rattle.model.specs.Job.{listsThread, mayTerminate, count}
 use Rattle.model.specs.Step.{Call, final}
 

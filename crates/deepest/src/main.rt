@@ -1,6 +1,4 @@
 // deepest: the deepest cascade, for its stack. Writes how many jobs it killed.
-use fresh_tables::fresh_tables;
-use reading::job_at;
 use record_exception::Exception;
 use record_exception::ExceptionType;
 use record_exception::Place;
@@ -10,7 +8,10 @@ use record_process::Status;
 use record_thread::Thread;
 use record_thread::ThreadState;
 use record_thread::Waiting;
+use records::reading::job_at;
+use records::reading::thread_at;
 use records::tables::Tables;
+use records::tables::fresh_tables;
 
 // A running process of a job, critical to a job.
 fn critical(job: u8, bound: u8) -> Process {
@@ -53,7 +54,9 @@ fn chain() -> Tables {
 // exit of a process, which waits for its end, up to the root.
 fn main() {
     let mut t = cascade::exit_process(chain(), 0, 7);
-    t = cascade::finish_thread(t, 0);
+    let v = thread_at(t, 0);
+    t = t.with_thread(0, v.finish());
+    t = cascade::remove_thread(t, 0);
     let mut killed: u64 = 0;
     for k in 0..32u8 {
         let v = job_at(t, k);

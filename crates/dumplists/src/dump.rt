@@ -3,13 +3,6 @@
 use crate::texts;
 use job_policy::JobPolicy;
 use job_policy::TimerSlack;
-use reading::fixed_at;
-use reading::inherited_at;
-use reading::job_at;
-use reading::own_at;
-use reading::process_at;
-use reading::thread_at;
-use reading::token_at;
 use record_exception::Exception;
 use record_job::Job;
 use record_job::Parent;
@@ -72,9 +65,10 @@ fn put_job(
 fn put_jobs(out: &mut [u8], at: usize, t: Tables) -> usize {
     let mut a = at;
     for name in 0..32u8 {
-        let v = job_at(t, name);
-        let own = own_at(t, name);
-        let inherited = inherited_at(t, name);
+        let i = name as usize;
+        let v = t.jobs[i];
+        let own = t.own[i];
+        let inherited = t.inherited[i];
         a = put_job(out, a, name, v, own, inherited);
     }
     a
@@ -129,8 +123,9 @@ fn put_process(out: &mut [u8], at: usize, name: u8, v: Process, fixed: JobPolicy
 fn put_processes(out: &mut [u8], at: usize, t: Tables) -> usize {
     let mut a = at;
     for name in 0..64u8 {
-        let v = process_at(t, name);
-        let fixed = fixed_at(t, name);
+        let i = name as usize;
+        let v = t.processes[i];
+        let fixed = t.fixed[i];
         a = put_process(out, a, name, v, fixed);
     }
     a
@@ -207,7 +202,8 @@ fn put_thread(out: &mut [u8], at: usize, name: u8, v: Thread) -> usize {
 fn put_threads(out: &mut [u8], at: usize, t: Tables) -> usize {
     let mut a = at;
     for name in 0..128u8 {
-        let v = thread_at(t, name);
+        let i = name as usize;
+        let v = t.threads[i];
         a = put_thread(out, a, name, v);
     }
     a
@@ -231,7 +227,8 @@ fn put_token(out: &mut [u8], at: usize, name: u8, v: SuspendToken) -> usize {
 fn put_tokens(out: &mut [u8], at: usize, t: Tables) -> usize {
     let mut a = at;
     for name in 0..64u8 {
-        let v = token_at(t, name);
+        let i = name as usize;
+        let v = t.tokens[i];
         a = put_token(out, a, name, v);
     }
     a

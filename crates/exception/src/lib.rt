@@ -26,8 +26,8 @@ use record_thread::FoundThread;
 use record_thread::Thread;
 use record_thread::ThreadState;
 use record_thread::Waiting;
+use records::reading::job_in;
 use reply::Fields;
-use rows::job_in;
 
 // -- Where the search starts ------------------------------------------------------------------
 

@@ -10,10 +10,10 @@ use error::Refusal;
 use exception::Raised;
 use exceptionate::ChannelCall;
 use exceptionate::JobMove;
-use reading::job_at;
-use reading::process_at;
-use reading::thread_at;
 use record_thread::Thread;
+use records::reading::job_at;
+use records::reading::process_at;
+use records::reading::thread_at;
 use records::tables::Tables;
 use reply::Reply;
 

@@ -22,8 +22,8 @@ use Rattle.records.specs.Tables.{foundJob, foundProcess, foundThread}
 use Rattle.records.proofs.Kept.{job-kept, process-kept, thread-kept}
 use Rattle.reply.specs.declared.Reply.{Reply}
 use Rattle.reply.specs.Reply.{answered}
-use Rattle.owners.specs.declared.FoundLevel.{FoundLevel}
-use Rattle.owners.specs.Owners.{ownersOf, foundLevel, putLevel, levelOfThread, levelOfProcess, levelOfJob}
+use Rattle.records.specs.declared.owners.FoundLevel.{FoundLevel}
+use Rattle.records.specs.Owners.{ownersOf, foundLevel, putLevel, levelOfThread, levelOfProcess, levelOfJob}
 use Rattle.model.specs.ExceptionCalls.{badLevel}
 use Rattle.model.proofs.Answering.{answering}
 use Rattle.thread.specs.declared.Move.{Move}

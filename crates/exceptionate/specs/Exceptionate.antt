@@ -14,8 +14,8 @@ use Rattle.records.specs.declared.tables.Tables.{Tables}
 use Rattle.records.specs.Tables.{jobAt, processAt, putJob}
 use Rattle.reply.specs.declared.Reply.{Reply}
 use Rattle.reply.specs.Reply.{answered}
-use Rattle.owners.specs.declared.FoundLevel.{FoundLevel}
-use Rattle.owners.specs.Owners.{ownersOf, foundLevel, putLevel}
+use Rattle.records.specs.declared.owners.FoundLevel.{FoundLevel}
+use Rattle.records.specs.Owners.{ownersOf, foundLevel, putLevel}
 use Rattle.model.specs.ExceptionCalls.{badLevel, bindLevel, hangUpLevel}
 use Rattle.process.specs.declared.Move.{Move}
 use Rattle.process.specs.Process.{moved}

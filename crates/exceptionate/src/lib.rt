@@ -3,7 +3,7 @@
 ghost use mathlib.Core.Path.{_≡_};
 ghost use Rattle.model.specs.ExceptionCalls.{bindLevel, hangUpLevel};
 ghost use Rattle.model.specs.ExceptionCalls.{setState, hasStrategy, setStrategy, getProcessHandle};
-ghost use Rattle.owners.specs.Owners.{levelOfThread, levelOfProcess, levelOfJob};
+ghost use Rattle.records.specs.Owners.{levelOfThread, levelOfProcess, levelOfJob};
 ghost use Rattle.record_job.specs.Job.{foundJobIn};
 ghost use Rattle.record_process.specs.Process.{foundProcessIn};
 ghost use Rattle.record_thread.specs.Thread.{foundThreadIn};
@@ -13,7 +13,6 @@ ghost use Rattle.exceptionate.specs.Exceptionate.{withProcessLevel, Move
 ghost use Rattle.exceptionate.specs.Exceptionate.{withJobLevel, jobMove, MovesJob};
 use error::Refusal;
 use error::ZxError;
-use owners::FoundLevel;
 use record_exception::Exception;
 use record_exception::Level;
 use record_job::FoundJob;
@@ -24,6 +23,8 @@ use record_thread::FoundException;
 use record_thread::FoundThread;
 use record_thread::Thread;
 use record_thread::Waiting;
+use records::owners::FoundLevel;
+use records::owners::owners_of;
 use thread::Move;
 
 // -- Channels: the ladder of each call, over a level that was looked up ------------------------
@@ -44,7 +45,7 @@ pub enum LevelMove {
 fn create_channel(level: u8, owner: u8, found: FoundLevel) -> LevelMove
     ensures { λ r. ⌜ OnLevel (λ t. bindLevel t level owner) level owner found r ⌝ }
 {
-    if owners::owners_of(level) <= owner {
+    if owners_of(level) <= owner {
         return LevelMove::Refused(Refusal::PAST_TABLE);
     }
     let FoundLevel::OldLevel(l) = found else {
@@ -63,7 +64,7 @@ fn create_channel(level: u8, owner: u8, found: FoundLevel) -> LevelMove
 fn hang_up(level: u8, owner: u8, found: FoundLevel) -> LevelMove
     ensures { λ r. ⌜ OnLevel (λ t. hangUpLevel t level owner) level owner found r ⌝ }
 {
-    if owners::owners_of(level) <= owner {
+    if owners_of(level) <= owner {
         return LevelMove::Refused(Refusal::PAST_TABLE);
     }
     let FoundLevel::OldLevel(l) = found else {

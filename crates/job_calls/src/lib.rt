@@ -10,9 +10,9 @@ use job::Made;
 use job::Move;
 use job_policy::BasicPolicy;
 use job_policy::TimerSlackPolicy;
-use reading::inherited_at;
-use reading::job_at;
-use reading::own_at;
+use records::reading::inherited_at;
+use records::reading::job_at;
+use records::reading::own_at;
 use records::tables::Tables;
 use reply::Reply;
 
@@ -86,7 +86,7 @@ pub fn set_policy(t: Tables, job: u8, option: u8, count: u8, policies: [BasicPol
     let j = job_at(t, job % 32);
     let own = own_at(t, job % 32);
     let inherited = inherited_at(t, job % 32);
-    let empty = job_lists::job_empty(t, job);
+    let empty = cascade::terminate::job_empty(t, job);
     let m = job::set_policy(job, option, count, policies, j, own, inherited, empty);
     moved(t, job, m)
 }
@@ -97,7 +97,7 @@ pub fn set_policy_timer_slack(t: Tables, job: u8, policy: TimerSlackPolicy) -> R
 {
     let j = job_at(t, job % 32);
     let own = own_at(t, job % 32);
-    let empty = job_lists::job_empty(t, job);
+    let empty = cascade::terminate::job_empty(t, job);
     moved(
         t,
         job,

@@ -12,9 +12,10 @@ ghost use Rattle.lists.specs.Alone.{belowKilled, killsAlone};
 use record_job::Job;
 use record_job::Parent;
 use record_process::Process;
+use records::reading::job_in;
 
 // Whether job j lists a child.
-pub fn lists_child(jobs: [Job; 32], j: u8) -> bool
+fn lists_child(jobs: [Job; 32], j: u8) -> bool
     ensures { λ r. ⌜ r ≡ any (λ v. childOf v j) jobs ⌝ }
 {
     let mut i: usize = 0;
@@ -29,7 +30,7 @@ pub fn lists_child(jobs: [Job; 32], j: u8) -> bool
 }
 
 // Whether job j lists a process.
-pub fn lists_process(processes: [Process; 64], j: u8) -> bool
+fn lists_process(processes: [Process; 64], j: u8) -> bool
     ensures { λ r. ⌜ r ≡ any (λ q. memberOf q j) processes ⌝ }
 {
     let mut i: usize = 0;
@@ -81,17 +82,6 @@ pub fn process_from(processes: [Process; 64], j: u8, from: u8) -> u8
         i += 1;
     }
     i as u8
-}
-
-// A job; past the table there is none.
-fn job_in(jobs: [Job; 32], name: u8) -> Job
-    ensures { λ r. ⌜ r ≡ getD jobs name noJob ⌝ }
-{
-    let i = name as usize;
-    if 32 <= i {
-        return Job::none();
-    }
-    jobs[i]
 }
 
 // Whether job j is job i or an ancestor of it.

@@ -37,9 +37,9 @@ use Rattle.model.specs.ThreadCalls.{finishThreadCall, threadInfo, thread
 use Rattle.model.specs.ThreadCalls.{isWaitState, waitBegun, beginWait, waitAnswer}
 use Rattle.model.specs.ThreadCalls.{waitPolled, pollWait, createTokenCall, dropTokenCall}
 use Rattle.model.specs.ThreadCalls.{suspendCall, resumeCall}
-use Rattle.owners.specs.Owners.{ownersOf, processLevel, jobLevel, levelOfThread, levelOfProcess}
-use Rattle.owners.specs.Owners.{levelOfJob, foundLevel, putLevel, tasksOf, madeJob, madeProcess}
-use Rattle.owners.specs.Owners.{madeThread, foundTask}
+use Rattle.records.specs.Owners.{ownersOf, processLevel, jobLevel, levelOfThread, levelOfProcess}
+use Rattle.records.specs.Owners.{levelOfJob, foundLevel, putLevel, tasksOf, madeJob, madeProcess}
+use Rattle.records.specs.Owners.{madeThread, foundTask}
 use Rattle.record_job.specs.Job.{childOf}
 use Rattle.record_process.specs.Process.{ended, acts, memberOf}
 use Rattle.record_thread.specs.Thread.{hides, shownState, isLive, isFree, threadOf, kill, exit}

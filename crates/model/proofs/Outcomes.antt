@@ -28,10 +28,10 @@ use Rattle.reply.specs.declared.Fields.the-variants.{NoFields}
 use Rattle.reply.specs.declared.Reply.{Reply}
 use Rattle.reply.specs.Reply.{reply, answered}
 use Rattle.records.specs.Tables.{ownAt, inheritedAt, putOwn}
-use Rattle.owners.specs.declared.FoundLevel.{FoundLevel}
-use Rattle.owners.specs.declared.FoundLevel.the-variants.{NoLevel, OldLevel}
-use Rattle.owners.specs.declared.FoundTask.{FoundTask}
-use Rattle.owners.specs.declared.FoundTask.the-variants.{NoTask, OldTask}
+use Rattle.records.specs.declared.owners.FoundLevel.{FoundLevel}
+use Rattle.records.specs.declared.owners.FoundLevel.the-variants.{NoLevel, OldLevel}
+use Rattle.records.specs.declared.owners.FoundTask.{FoundTask}
+use Rattle.records.specs.declared.owners.FoundTask.the-variants.{NoTask, OldTask}
 use Rattle.model.specs.declared.Handler.{Handler}
 use Rattle.model.specs.declared.Handler.the-variants.{Nobody, HandlerAt}
 use Rattle.model.specs.Replies.{call, oldJob, oldProcess, oldThread, oldToken, heldException}

@@ -14,7 +14,7 @@ use Rattle.record_thread.specs.Thread.{isFree, waits}
 use Rattle.records.specs.declared.tables.Tables.{Tables}
 use Rattle.reply.specs.declared.Reply.{Reply}
 use Rattle.records.specs.Tables.{putThread}
-use Rattle.owners.specs.Owners.{ownersOf, putLevel}
+use Rattle.records.specs.Owners.{ownersOf, putLevel}
 use Rattle.model.specs.Replies.{call, accept, thread, exception, channel}
 use Rattle.model.specs.Exception.{routeOf, isNoType, raise, close}
 

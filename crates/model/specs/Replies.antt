@@ -23,11 +23,11 @@ use Rattle.record_thread.specs.declared.FoundThread.the-variants.{NoThread, Old
 use Rattle.record_token.specs.declared.FoundToken.{FoundToken}
 use Rattle.record_token.specs.declared.FoundToken.the-variants.{NoToken, OldToken}
 use Rattle.reply.specs.declared.Reply.{Reply}
-use Rattle.owners.specs.declared.FoundLevel.{FoundLevel}
-use Rattle.owners.specs.declared.FoundLevel.the-variants.{NoLevel, OldLevel}
-use Rattle.owners.specs.declared.FoundTask.{FoundTask}
-use Rattle.owners.specs.declared.FoundTask.the-variants.{NoTask, OldTask}
-use Rattle.owners.specs.Owners.{foundLevel, foundTask}
+use Rattle.records.specs.declared.owners.FoundLevel.{FoundLevel}
+use Rattle.records.specs.declared.owners.FoundLevel.the-variants.{NoLevel, OldLevel}
+use Rattle.records.specs.declared.owners.FoundTask.{FoundTask}
+use Rattle.records.specs.declared.owners.FoundTask.the-variants.{NoTask, OldTask}
+use Rattle.records.specs.Owners.{foundLevel, foundTask}
 use Rattle.reply.specs.Reply.{answered}
 use Rattle.records.specs.Tables.{foundJob, foundProcess, foundThread, foundToken}
 

@@ -18,7 +18,7 @@ use Rattle.reply.specs.declared.Fields.the-variants.{ThreadFields}
 use Rattle.reply.specs.declared.Reply.{Reply}
 use Rattle.reply.specs.Reply.{reply, answered}
 use Rattle.records.specs.Tables.{threadAt, tokenAt, putThread}
-use Rattle.owners.specs.Owners.{tasksOf}
+use Rattle.records.specs.Owners.{tasksOf}
 use Rattle.model.specs.Replies.{call, accept, process, thread, token, task}
 use Rattle.model.specs.Job.{finishThread}
 use Rattle.model.specs.SuspendToken.{someAt, suspendTask, resumeTask, createToken, dropToken}

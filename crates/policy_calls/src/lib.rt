@@ -4,9 +4,9 @@ ghost use mathlib.Core.Path.{_≡_};
 ghost use Rattle.model.specs.JobCalls.{setPolicyBasic};
 ghost use Rattle.job.specs.Work.{beginWork, stepWork, finishWork};
 use job_policy::BasicPolicy;
-use reading::inherited_at;
-use reading::job_at;
-use reading::own_at;
+use records::reading::inherited_at;
+use records::reading::job_at;
+use records::reading::own_at;
 use records::tables::Tables;
 use reply::Reply;
 
@@ -30,7 +30,7 @@ fn finish(t: Tables, job: u8, option: u8, w: job::policy::Work) -> Reply
 {
     let j = job_at(t, job % 32);
     let own = own_at(t, job % 32);
-    let empty = job_lists::job_empty(t, job);
+    let empty = cascade::terminate::job_empty(t, job);
     job_calls::moved(t, job, job::settle_policy(job, option, w, j, own, empty))
 }
 

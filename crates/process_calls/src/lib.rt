@@ -7,12 +7,12 @@ ghost use Rattle.process.specs.Process.{madeIn, exitedIn, moved};
 use process::Exiting;
 use process::Made;
 use process::Move;
-use reading::fixed_at;
-use reading::inherited_at;
-use reading::job_at;
-use reading::own_at;
-use reading::process_at;
-use reading::thread_at;
+use records::reading::fixed_at;
+use records::reading::inherited_at;
+use records::reading::job_at;
+use records::reading::own_at;
+use records::reading::process_at;
+use records::reading::thread_at;
 use records::tables::Tables;
 use reply::Reply;
 

@@ -25,8 +25,8 @@ use Rattle.lines.specs.Line.{lineOf, Put, within}
 use Rattle.lines.proofs.Puts.{roomy}
 use Rattle.stream_state.specs.declared.State.{State}
 use Rattle.stream_state.specs.State.{nextNumber, stateOf}
-use Rattle.feeding.specs.Recorder.{fed, ahead}
-use Rattle.feeding.proofs.Feeding.{goes, whole-fits}
+use Rattle.stream_state.specs.Recorder.{fed, ahead}
+use Rattle.stream_state.proofs.Feeding.{goes, whole-fits}
 
 abbrev pub Held : (input out₀ : List ℕ) → State → (out : List ℕ) → Tables → (number at written : ℕ) → Type 0
 Held input out₀ s₀ out t number at written =

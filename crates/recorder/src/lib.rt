@@ -1,19 +1,19 @@
 // recorder: a stream of commands, taken in parts of any size, and the lines that are written for it.
-// feeding/specs/Recorder.antt says what is written for a part; that no cut into parts changes the whole is in `stream`.
+// stream_state/specs/Recorder.antt says what is written for a part; that no cut into parts changes the whole is in `stream`.
 ghost use mathlib.Core.Path.{_≡_};
 ghost use Prim.Native.Nat.{_≤_};
 ghost use lib.ListN.{length};
 ghost use Rattle.io.specs.Counts.{Counts};
-ghost use Rattle.feeding.specs.Recorder.{fed, Feeds};
+ghost use Rattle.stream_state.specs.Recorder.{fed, Feeds};
 use calls::Command;
 use commands::Next;
 use error::Refusal;
-use feeding::Fed;
-use feeding::fed_at;
 use job_policy::JobPolicy;
 use lines::LINE;
 use record_token::Kind;
 use stream_state::State;
+use stream_state::fed::Fed;
+use stream_state::fed::fed_at;
 
 // Performs whole commands from the front of `input` while `out` has room for a line, and says how far it came.
 // Each arm reads the records that its call names, stores what the call gives, and writes its line.

@@ -1,7 +1,7 @@
 // tables.rt: the records of all names. Policies stand beside jobs and processes, since no lookup can hold an array.
 ghost use mathlib.Core.Path.{_≡_};
 ghost use Rattle.records.specs.Tables.{putJob, putOwn, putInherited, putProcess};
-ghost use Rattle.records.specs.Tables.{putFixed, putThread, putToken};
+ghost use Rattle.records.specs.Tables.{putFixed, putThread, putToken, freshTables};
 use job_policy::JobPolicy;
 use record_job::Job;
 use record_process::Process;
@@ -18,6 +18,26 @@ pub struct Tables {
     pub fixed: [JobPolicy; 64],
     pub threads: [Thread; 128],
     pub tokens: [SuspendToken; 64],
+}
+
+// -- The start -----------------------------------------------------------------------------
+
+// The root alone is made.
+pub fn fresh_tables() -> Tables
+    ensures { λ r. ⌜ r ≡ freshTables ⌝ }
+{
+    let mut jobs = [Job::none(); 32];
+    jobs[0] = Job::root();
+    let policies = [JobPolicy::none(); 32];
+    Tables {
+        jobs: jobs,
+        own: policies,
+        inherited: policies,
+        processes: [Process::none(); 64],
+        fixed: [JobPolicy::none(); 64],
+        threads: [Thread::none(); 128],
+        tokens: [SuspendToken::none(); 64],
+    }
 }
 
 // -- Storing -------------------------------------------------------------------------------

@@ -1,11 +1,11 @@
 // refusals: each entry point turned back at each row of document 01's table that it has, in its order. Writes the
 // command's number, in decimal, and the answer.
-use fresh_tables::fresh_tables;
 use job_policy::BasicPolicy;
 use job_policy::JobPolicy;
 use job_policy::TimerSlackPolicy;
 use record_thread::Thread;
 use records::tables::Tables;
+use records::tables::fresh_tables;
 use reply::Fields;
 use reply::Reply;
 

@@ -15,7 +15,7 @@ use Rattle.calls.specs.Calls.{Called, called, callIn, perform}
 use Rattle.calls.proofs.Whole.{IsCall, is-call, whole-called}
 use Rattle.stream_state.specs.declared.State.{State}
 use Rattle.stream_state.specs.State.{nextNumber, stopAt, closing}
-use Rattle.feeding.specs.Recorder.{onNext, after, lineFor, line}
+use Rattle.stream_state.specs.Recorder.{onNext, after, lineFor, line}
 use Rattle.stream.specs.Stream.{transcriptWithin, transcript, callsOf, callsWithin, callsIn}
 use Rattle.stream.specs.Stream.{leftWithin, leftIn, linesFrom}
 

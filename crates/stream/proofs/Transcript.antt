@@ -11,8 +11,8 @@ use Rattle.commands.specs.Commands.{nextOf}
 use Rattle.commands.proofs.Stays.{left-less}
 use Rattle.stream_state.specs.declared.State.{State}
 use Rattle.stream_state.specs.State.{stopAt, closing}
-use Rattle.feeding.specs.Recorder.{after, line}
-use Rattle.feeding.proofs.Parts.{on-same}
+use Rattle.stream_state.specs.Recorder.{after, line}
+use Rattle.stream_state.proofs.Parts.{on-same}
 use Rattle.stream.specs.Stream.{transcriptStep, transcriptWithin, transcript}
 
 transcriptStep-same : (K L : State → List ℕ → List ℕ) (s : State) (bs : List ℕ) →

@@ -25,11 +25,11 @@ use Rattle.commands.proofs.Stays.{whole-bounds, left-less, front-stays}
 use Rattle.calls.specs.Calls.{callIn, perform}
 use Rattle.stream_state.specs.declared.State.{State}
 use Rattle.stream_state.specs.State.{freshState, stopAt, closing}
-use Rattle.feeding.specs.Recorder.{replyTo, after, line, lineFor}
-use Rattle.feeding.specs.Recorder.{onNext, Part, part, ahead, fedStep, fedWithin, fed}
+use Rattle.stream_state.specs.Recorder.{replyTo, after, line, lineFor}
+use Rattle.stream_state.specs.Recorder.{onNext, Part, part, ahead, fedStep, fedWithin, fed}
 use Rattle.stream.specs.Stream.{transcriptStep, transcript, Event, read, call, bytesOf}
 use Rattle.stream.specs.Stream.{progress, Drained, Stream}
-use Rattle.feeding.proofs.Parts.{fed-is}
+use Rattle.stream_state.proofs.Parts.{fed-is}
 use Rattle.stream.proofs.Transcript.{transcript-is}
 use Rattle.stream.proofs.Answered.{as-answered}
 

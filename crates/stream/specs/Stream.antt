@@ -14,7 +14,7 @@ use Rattle.calls.specs.Calls.{Called, noCall, called, callIn}
 use Rattle.lines.specs.Line.{lineOf, stopLine}
 use Rattle.stream_state.specs.declared.State.{State}
 use Rattle.stream_state.specs.State.{nextNumber, freshState, stopAt, closing}
-use Rattle.feeding.specs.Recorder.{after, line, onNext, fed}
+use Rattle.stream_state.specs.Recorder.{after, line, onNext, fed}
 
 -- ---- The whole stream ----------------------------------------------------------------------
 

@@ -1,13 +1,15 @@
 // stream_state: where a stream of commands stands, the number of its next line, and its end.
-// specs/State.antt says what is written at the end of the input.
+// specs/Recorder.antt says what is written for a part of a stream, specs/State.antt what at the end of the input.
 ghost use mathlib.Core.Path.{_≡_};
 ghost use lib.ListN.{length};
 ghost use Rattle.io.specs.Counts.{Counts};
 ghost use Rattle.lines.specs.Line.{Put};
 ghost use Rattle.stream_state.specs.State.{nextNumber, freshState, closedWithin};
-use fresh_tables::fresh_tables;
 use lines::LINE;
 use records::tables::Tables;
+use records::tables::fresh_tables;
+
+pub mod fed;
 
 // The tables, and the number of the last line.
 pub struct State {

@@ -29,8 +29,8 @@ use Rattle.records.proofs.Kept.{job-looked-up-at, process-looked-up-at, thread-
 use Rattle.records.proofs.Kept.{thread-kept, token-kept, thread-at, token-at}
 use Rattle.reply.specs.declared.Reply.{Reply}
 use Rattle.reply.specs.Reply.{answered}
-use Rattle.owners.specs.declared.FoundTask.{FoundTask}
-use Rattle.owners.specs.Owners.{tasksOf, foundTask, madeJob, madeProcess, madeThread}
+use Rattle.records.specs.declared.owners.FoundTask.{FoundTask}
+use Rattle.records.specs.Owners.{tasksOf, foundTask, madeJob, madeProcess, madeThread}
 use Rattle.model.specs.SuspendToken.{PROCESS, someAt, changeIn, changeTask, suspendTask, resumeTask, createToken, dropToken}
 use Rattle.model.proofs.Answering.{answering}
 use Rattle.suspend_token.specs.declared.Task.{Task}

@@ -19,8 +19,8 @@ use Rattle.records.specs.declared.tables.Tables.{Tables}
 use Rattle.records.specs.Tables.{jobAt, processAt, threadAt, tokenAt, putThread, putToken, withThreads}
 use Rattle.reply.specs.declared.Reply.{Reply}
 use Rattle.reply.specs.Reply.{answered}
-use Rattle.owners.specs.declared.FoundTask.{FoundTask}
-use Rattle.owners.specs.Owners.{madeJob, madeProcess, madeThread}
+use Rattle.records.specs.declared.owners.FoundTask.{FoundTask}
+use Rattle.records.specs.Owners.{madeJob, madeProcess, madeThread}
 use Rattle.model.specs.SuspendToken.{PROCESS}
 use Rattle.suspend_token.specs.declared.Task.{Task}
 use Rattle.suspend_token.specs.declared.Token.{Token}

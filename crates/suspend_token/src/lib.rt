@@ -4,12 +4,11 @@
 // stands in the way, and `each` that each is to be changed. specs/SuspendToken.antt says what is given means for the tables.
 ghost use mathlib.Core.Bool.{false};
 ghost use mathlib.Core.Path.{_≡_};
-ghost use Rattle.owners.specs.Owners.{tasksOf};
+ghost use Rattle.records.specs.Owners.{tasksOf};
 ghost use Rattle.model.specs.ThreadCalls.{createTokenCall, dropTokenCall, suspendCall, resumeCall};
 ghost use Rattle.suspend_token.specs.SuspendToken.{foundTaskIn, someIn, task, token, suspendedIn, resumedIn};
 ghost use Rattle.suspend_token.specs.SuspendToken.{Suspends, Resumes, Creates, Drops, noneIn};
 use error::Refusal;
-use owners::FoundTask;
 use record_job::FoundJob;
 use record_job::Job;
 use record_process::FoundProcess;
@@ -19,6 +18,7 @@ use record_thread::Thread;
 use record_token::FoundToken;
 use record_token::Kind;
 use record_token::SuspendToken;
+use records::owners::FoundTask;
 
 // -- Tasks: kind 0 is a job, 1 a process, 2 a thread -----------------------------------------------
 

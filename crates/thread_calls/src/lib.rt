@@ -5,8 +5,8 @@ ghost use Rattle.model.specs.ThreadCalls.{createThread, startThread, killThread
 ghost use Rattle.model.specs.ThreadCalls.{beginWait, pollWait, threadInformation};
 ghost use Rattle.thread.specs.Move.{moved, finished};
 ghost use Rattle.thread.specs.Pair.{bothMoved};
-use reading::process_at;
-use reading::thread_at;
+use records::reading::process_at;
+use records::reading::thread_at;
 use records::tables::Tables;
 use reply::Reply;
 use thread::Both;

@@ -1,4 +1,4 @@
--- The threads that a process lists: whether one has a suspend count, and a change of each.
+-- The threads that a process lists, and a change of each.
 use Prim.Native.Nat.{ℕ}
 use mathlib.Core.Bool.{Bool, true, false}
 use mathlib.Core.List.{List, [], _∷_}
@@ -7,6 +7,7 @@ use Rattle.record_thread.specs.declared.Thread.{Thread}
 use Rattle.thread_lists.specs.declared.Changed.{Changed}
 use Rattle.record_thread.specs.Thread.{FULL, suspend, resume, kill, threadOf}
 
+-- on the list of process p, with this suspend count
 abbrev pub hasCount : ℕ → ℕ → Thread → Bool
 hasCount p count = λ v. threadOf v p and (v .suspends =? count)
 

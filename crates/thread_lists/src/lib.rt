@@ -4,7 +4,7 @@ ghost use mathlib.Core.List.{map};
 ghost use mathlib.Core.Path.{_≡_};
 ghost use Rattle.laws.specs.Lists.{any};
 ghost use Rattle.record_thread.specs.Thread.{threadOf};
-ghost use Rattle.thread_lists.specs.Each.{hasCount, oneOf, eachIn, bars, changed, eachUnless};
+ghost use Rattle.thread_lists.specs.Each.{oneOf, eachIn, bars, changed, eachUnless};
 use record_thread::Thread;
 
 // -- Tests ---------------------------------------------------------------------------------
@@ -17,31 +17,6 @@ pub fn lists_thread(threads: [Thread; 128], p: u8) -> bool
     while i < 128 {
         let v = threads[i];
         if v.thread_of(p) {
-            return true;
-        }
-        i += 1;
-    }
-    false
-}
-
-// Whether a thread is on the list of process p and has this suspend count.
-fn has_count(v: Thread, p: u8, count: u16) -> bool
-    ensures { λ r. ⌜ r ≡ hasCount p count v ⌝ }
-{
-    if v.thread_of(p) {
-        return v.suspends == count;
-    }
-    false
-}
-
-// Whether process p lists a thread with this suspend count.
-pub fn some_count(threads: [Thread; 128], p: u8, count: u16) -> bool
-    ensures { λ r. ⌜ r ≡ any (hasCount p count) threads ⌝ }
-{
-    let mut i: usize = 0;
-    while i < 128 {
-        let v = threads[i];
-        if has_count(v, p, count) {
             return true;
         }
         i += 1;

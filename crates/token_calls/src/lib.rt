@@ -4,12 +4,12 @@
 ghost use mathlib.Core.Path.{_≡_};
 ghost use Rattle.model.specs.ThreadCalls.{createTokenCall, dropTokenCall, suspendCall, resumeCall};
 ghost use Rattle.token_calls.specs.TokenCalls.{ofEach, changedTo, taskTo, tokenTo};
-use reading::job_at;
-use reading::process_at;
-use reading::thread_at;
-use reading::token_at;
 use record_thread::Thread;
 use record_token::Kind;
+use records::reading::job_at;
+use records::reading::process_at;
+use records::reading::thread_at;
+use records::reading::token_at;
 use records::tables::Tables;
 use reply::Reply;
 use suspend_token::Task;

@@ -39,15 +39,15 @@ use Rattle.cascade.proofs.is_live_job.Reads as is-live-job-reads
 use Rattle.cascade.proofs.is_live_process.Reads as is-live-process-reads
 use Rattle.cascade.proofs.lists_thread.Reads as lists-thread-reads
 use Rattle.cascade.proofs.stop_threads.Reads as stop-threads-reads
-use Rattle.job_lists.proofs.job_empty.Reads as job-empty-reads
-use Rattle.job_lists.proofs.terminate_job.Reads as terminate-job-reads
-use Rattle.job_lists.proofs.unlist_process.Reads as unlist-process-reads
+use Rattle.cascade.proofs.terminate.job_empty.Reads as job-empty-reads
+use Rattle.cascade.proofs.terminate.terminate_job.Reads as terminate-job-reads
+use Rattle.cascade.proofs.terminate.unlist_process.Reads as unlist-process-reads
 use Rattle.record_job.proofs.Job.killed.Reads as killed-reads
 use Rattle.record_process.proofs.Process.with_status.Reads as with-status-reads
 use Rattle.record_process.proofs.Status.code.Reads as code-reads
 use Rattle.record_process.proofs.binding_acts.Reads as binding-acts-reads
-use Rattle.reading.proofs.job_at.Reads as job-at-reads
-use Rattle.reading.proofs.process_at.Reads as process-at-reads
+use Rattle.records.proofs.reading.job_at.Reads as job-at-reads
+use Rattle.records.proofs.reading.process_at.Reads as process-at-reads
 use Rattle.records.proofs.tables.Tables.with_job.Reads as with-job-reads
 use Rattle.records.proofs.tables.Tables.with_process.Reads as with-process-reads
 use Rattle.cascade.proofs.+end_process+exit_process+kill_job.{statement}

@@ -17,7 +17,7 @@ use Rattle.record_thread.specs.Thread.{threadOf, endWait}
 use Rattle.records.specs.declared.tables.Tables.{Tables}
 use Rattle.records.specs.Tables.{threadAt, putJob, putOwn, putInherited, putProcess, putFixed}
 use Rattle.records.specs.Tables.{putThread, putToken}
-use Rattle.owners.specs.Owners.{putLevel}
+use Rattle.records.specs.Owners.{putLevel}
 use Rattle.model.specs.Replies.{thread}
 use Rattle.model.specs.SuspendToken.{PROCESS, changeIn, changeTask, suspendTask, resumeTask}
 use Rattle.model.proofs.TaskTables.{onThread}

@@ -19,7 +19,7 @@ use Rattle.record_thread.specs.Thread.{DEAD, DYING, newThread, exit, threadOf, 
 use Rattle.record_thread.specs.Thread.{endWait}
 use Rattle.records.specs.declared.tables.Tables.{Tables}
 use Rattle.records.specs.Tables.{jobAt, processAt, threadAt, putThread}
-use Rattle.owners.specs.Owners.{putLevel}
+use Rattle.records.specs.Owners.{putLevel}
 use Rattle.model.specs.declared.Handler.{Handler}
 use Rattle.model.specs.declared.Handler.the-variants.{Nobody, HandlerAt}
 use Rattle.model.specs.declared.Search.{Search}

@@ -19,8 +19,8 @@ use Rattle.record_process.specs.declared.FoundProcess.the-variants.{NoProcess, 
 use Rattle.record_thread.specs.declared.FoundThread.the-variants.{NoThread, OldThread}
 use Rattle.records.specs.Tables.{jobAt, processAt, threadAt, putJob, foundJob, foundProcess}
 use Rattle.records.specs.Tables.{foundThread}
-use Rattle.owners.specs.Owners.{ownersOf, tasksOf, levelOfJob, levelOfProcess, levelOfThread}
-use Rattle.owners.specs.Owners.{foundLevel, putLevel, madeJob, madeProcess, madeThread, foundTask}
+use Rattle.records.specs.Owners.{ownersOf, tasksOf, levelOfJob, levelOfProcess, levelOfThread}
+use Rattle.records.specs.Owners.{foundLevel, putLevel, madeJob, madeProcess, madeThread, foundTask}
 use Rattle.model.specs.SuspendToken.{someAt, changeTask}
 use Rattle.model.specs.ExceptionCalls.{badLevel}
 use Rattle.claims.specs.Separation.{Trip, taskOf, OwnTask, a-job, a-process, a-thread}

@@ -58,9 +58,9 @@ use Rattle.model.specs.ThreadCalls.{finishThreadCall, threadInfo, threadInforma
 use Rattle.model.specs.ThreadCalls.{isWaitState, waitBegun, beginWait, waitAnswer}
 use Rattle.model.specs.ThreadCalls.{waitPolled, pollWait, createTokenCall, dropTokenCall}
 use Rattle.model.specs.ThreadCalls.{suspendCall, resumeCall}
-use Rattle.owners.specs.Owners.{ownersOf, processLevel, jobLevel, levelOfThread, levelOfProcess}
-use Rattle.owners.specs.Owners.{levelOfJob, foundLevel, putLevel, tasksOf, madeJob, madeProcess}
-use Rattle.owners.specs.Owners.{madeThread, foundTask}
+use Rattle.records.specs.Owners.{ownersOf, processLevel, jobLevel, levelOfThread, levelOfProcess}
+use Rattle.records.specs.Owners.{levelOfJob, foundLevel, putLevel, tasksOf, madeJob, madeProcess}
+use Rattle.records.specs.Owners.{madeThread, foundTask}
 use Rattle.reply.specs.Reply.{reply, answered}
 use Rattle.records.specs.Tables.{freshTables, jobAt, ownAt, inheritedAt, processAt, fixedAt}
 use Rattle.records.specs.Tables.{threadAt, tokenAt, foundJob, foundProcess, foundThread}

@@ -19,7 +19,7 @@ use Rattle.record_thread.specs.declared.Thread.{Thread}
 use Rattle.record_thread.specs.Thread.{DEAD, isFree, waits}
 use Rattle.records.specs.declared.tables.Tables.{Tables}
 use Rattle.records.specs.Tables.{jobAt, processAt, threadAt, putThread}
-use Rattle.owners.specs.Owners.{foundLevel, processLevel, jobLevel, putLevel}
+use Rattle.records.specs.Owners.{foundLevel, processLevel, jobLevel, putLevel}
 use Rattle.model.specs.Replies.{thread, exception, channel}
 use Rattle.model.specs.ExceptionCalls.{badLevel, bindLevel, hangUpLevel, raiseException}
 use Rattle.model.specs.ExceptionCalls.{closeException, withException, setState, setStrategy}

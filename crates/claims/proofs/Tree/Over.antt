@@ -16,8 +16,8 @@ use Rattle.record_thread.specs.Thread.{isWaiting}
 use Rattle.record_token.specs.declared.SuspendToken.{SuspendToken}
 use Rattle.records.specs.declared.tables.Tables.{Tables}
 use Rattle.records.specs.Tables.{jobAt, processAt, threadAt, foundJob, foundProcess, foundThread}
-use Rattle.owners.specs.declared.FoundTask.the-variants.{NoTask, OldTask}
-use Rattle.owners.specs.Owners.{foundTask, madeJob, madeProcess, madeThread}
+use Rattle.records.specs.declared.owners.FoundTask.the-variants.{NoTask, OldTask}
+use Rattle.records.specs.Owners.{foundTask, madeJob, madeProcess, madeThread}
 use Rattle.claims.specs.Reachable.{AtOrAbove, here, below}
 use Rattle.claims.proofs.Tree.Parts.{GoodJob, GoodProcess, GoodThread, GoodToken}
 

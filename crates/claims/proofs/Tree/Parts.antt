@@ -22,8 +22,8 @@ use Rattle.record_token.specs.declared.SuspendToken.{SuspendToken}
 use Rattle.record_token.specs.SuspendToken.{noToken}
 use Rattle.records.specs.declared.tables.Tables.{Tables}
 use Rattle.records.specs.Tables.{jobAt, ownAt, inheritedAt, processAt, fixedAt, threadAt, tokenAt}
-use Rattle.owners.specs.declared.FoundTask.the-variants.{OldTask}
-use Rattle.owners.specs.Owners.{foundTask}
+use Rattle.records.specs.declared.owners.FoundTask.the-variants.{OldTask}
+use Rattle.records.specs.Owners.{foundTask}
 use Rattle.records.specs.Tables.{Sized}
 use Rattle.claims.specs.Reachable.{AtOrAbove, Tree}
 

@@ -20,8 +20,8 @@ use Rattle.record_token.specs.declared.SuspendToken.{SuspendToken}
 use Rattle.record_token.specs.SuspendToken.{newToken, drop}
 use Rattle.records.specs.declared.tables.Tables.{Tables}
 use Rattle.records.specs.Tables.{jobAt, processAt, threadAt, tokenAt, putThread, withThreads}
-use Rattle.owners.specs.declared.FoundTask.the-variants.{OldTask}
-use Rattle.owners.specs.Owners.{foundTask}
+use Rattle.records.specs.declared.owners.FoundTask.the-variants.{OldTask}
+use Rattle.records.specs.Owners.{foundTask}
 use Rattle.model.specs.Replies.{thread}
 use Rattle.model.specs.SuspendToken.{PROCESS, changeIn, changeTask, suspendTask, resumeTask}
 use Rattle.model.specs.SuspendToken.{createToken, dropToken}

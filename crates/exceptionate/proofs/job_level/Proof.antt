@@ -1,5 +1,5 @@
 use Rattle.laws.specs.Choice.{if_then_else_}
-use Rattle.owners.specs.Owners.{levelOfJob, jobLevel}
+use Rattle.records.specs.Owners.{levelOfJob, jobLevel}
 use Rattle.exceptionate.specs.Exceptionate.{ofJob}
 use borrow.Author.Needs.{needs}
 use Rattle.exceptionate.proofs.job_level.Statement.{statement}

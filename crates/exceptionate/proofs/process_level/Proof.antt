@@ -1,5 +1,5 @@
 use Rattle.laws.specs.Choice.{if_then_else_}
-use Rattle.owners.specs.Owners.{levelOfProcess, processLevel}
+use Rattle.records.specs.Owners.{levelOfProcess, processLevel}
 use Rattle.exceptionate.specs.Exceptionate.{ofProcess}
 use borrow.Author.Needs.{needs}
 use Rattle.exceptionate.proofs.process_level.Statement.{statement}

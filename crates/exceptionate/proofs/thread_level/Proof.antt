@@ -1,4 +1,4 @@
-use Rattle.owners.proofs.Laws.{levels}
+use Rattle.records.proofs.Looked.{levels}
 use borrow.Author.Needs.{needs}
 use Rattle.exceptionate.proofs.thread_level.Statement.{statement}
 use Rattle.exceptionate.proofs.thread_level.Tie as tie

@@ -38,8 +38,8 @@ use Rattle.lines.specs.Line.{lineOf, within, Put}
 use Rattle.lines.proofs.Puts.{roomy}
 use Rattle.stream_state.specs.declared.State.{State}
 use Rattle.stream_state.specs.State.{nextNumber, stateOf}
-use Rattle.feeding.specs.Recorder.{fed, ahead}
-use Rattle.feeding.proofs.Feeding.{begins, full, waits, stops}
+use Rattle.stream_state.specs.Recorder.{fed, ahead}
+use Rattle.stream_state.proofs.Feeding.{begins, full, waits, stops}
 use Rattle.recorder.proofs.Sizes.{job-sized, own-sized, inherited-sized, process-sized, fixed-sized}
 use Rattle.recorder.proofs.Sizes.{thread-sized, token-sized, jobs-sized, threads-sized}
 use Rattle.recorder.proofs.Turning.{Held, rest, performed, turns, fits, some}

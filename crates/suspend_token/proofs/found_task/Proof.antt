@@ -1,6 +1,6 @@
 use Rattle.laws.proofs.Flow.{branches}
 use Rattle.suspend_token.specs.SuspendToken.{foundTaskIn}
-use Rattle.owners.proofs.Laws.{tasks}
+use Rattle.records.proofs.Looked.{tasks}
 use borrow.Author.Needs.{needs}
 use Rattle.suspend_token.proofs.found_task.Statement.{statement}
 use Rattle.suspend_token.proofs.found_task.Tie as tie

@@ -1,5 +1,5 @@
 use Rattle.laws.proofs.Flow.{branches}
-use Rattle.owners.specs.Owners.{tasksOf}
+use Rattle.records.specs.Owners.{tasksOf}
 use Rattle.suspend_token.proofs.tasks_of.Statement.{statement}
 use Rattle.suspend_token.proofs.tasks_of.Tie as tie
 

@@ -1,8 +1,0 @@
-use Rattle.records.specs.Tables.{jobAt}
-use borrow.Author.Needs.{needs}
-use Rattle.reading.proofs.job_at.Statement.{statement}
-use Rattle.reading.proofs.job_at.Tie as tie
-
-pub job-at-spec : {M : Type 1} → statement M
-unfolding jobAt
-job-at-spec = tie.close (tie.spec (λ c κs. search needs) (λ c. search needs))

@@ -1,8 +1,0 @@
-use Rattle.records.specs.Tables.{threadAt}
-use borrow.Author.Needs.{needs}
-use Rattle.reading.proofs.thread_at.Statement.{statement}
-use Rattle.reading.proofs.thread_at.Tie as tie
-
-pub thread-at-spec : {M : Type 1} → statement M
-unfolding threadAt
-thread-at-spec = tie.close (tie.spec (λ c κs. search needs) (λ c. search needs))
