@@ -26,7 +26,8 @@ abbrev pub Members : Tables → (j : ℕ) → Tables → (p : ℕ) → Type 0
 Members t j u p =
     (u ≡ upTo p (exitMember exitProcess j) t) × (p ≤ 64) × (p < 64 → memberOf (processAt u p) j ≡ true)
 
-module _ (t : Tables) (j : ℕ) (u : Tables) (r : ℕ) (long : length (u .jobs) ≡ 32) (wide : length (u .processes) ≡ 64) where
+module _ (t : Tables) (j : ℕ) (u : Tables) (r : ℕ) (long : length (u .jobs) ≡ 32)
+    (wide : length (u .processes) ≡ 64) where
   -- r is the next from place i on
   child-next : (i : ℕ) → u ≡ upTo i (killChild killJob j) t → r ≡ next (λ v. childOf v j) (u .jobs) i →
       r ≤ 32 → Children t j u r

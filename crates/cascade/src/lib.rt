@@ -1,5 +1,6 @@
-// cascade: killing a job, exiting a process and ending a process, which call one another. Follows job.rs and process.rs.
-// Each of the three has one local of the tables and indexes none: the deepest cascade stays small on the stack.
+// cascade: killing a job, exiting a process and ending a process, which call one another. Follows job.rs and
+// process.rs. Each of the three has one local of the tables and indexes none: the deepest cascade stays small on the
+// stack.
 ghost use mathlib.Core.Path.{_≡_};
 ghost use Prim.Native.Nat.{_≤_};
 ghost use Rattle.record_job.specs.Job.{childOf};

@@ -1,5 +1,5 @@
-// terminate.rt: whether a job lists something, and what an empty list brings: `is_empty`, `remove_child`, `remove_process` and
-// `terminate` of job.rs.
+// terminate.rt: whether a job lists something, and what an empty list brings: `is_empty`, `remove_child`,
+// `remove_process` and `terminate` of job.rs.
 ghost use mathlib.Core.Path.{_≡_};
 ghost use Rattle.model.specs.Job.{jobEmpty, mayTerminate, terminateJob, unlistProcess};
 use record_job::Parent;

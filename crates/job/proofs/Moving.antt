@@ -2,8 +2,8 @@
 --     unmade, makes                   01: nothing is made, or the job and the policy that it inherits
 --     stays-as-it-is, was-killed,     02: refused, killed already, the kill stays with the job, or it is the cascade's
 --     kills-here, kills-on
---     stays, sets-some, sets-all,     0f and 10: nothing is changed, entries are set up to a refused one or all of them,
---     stores                          or the job is stored
+--     stays, sets-some, sets-all,     0f and 10: nothing is changed, entries are set up to a refused one or
+--     stores                          all of them, or the job is stored
 --     shows-info                      1b
 -- Assumes nothing.
 use Prim.Native.Nat.{ℕ, _%_, _<_, _≤_}

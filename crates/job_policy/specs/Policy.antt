@@ -1,5 +1,4 @@
--- A job's policy: fifteen entries, 0 for none and a + 1 for the action a. Follows job_policy.rs
--- and the page of zx_job_set_policy. A condition of 15 or more has no entry, and an action of 5 or
+-- A job's policy: fifteen entries, 0 for none and a + 1 for the action a. Follows job_policy.rs. A condition of 15 or more has no entry, and an action of 5 or
 -- more is no action: nothing is set.
 use Prim.Native.Nat.{ℕ, _+_, _-_, _<_}
 use mathlib.Core.Path.{_≡_}

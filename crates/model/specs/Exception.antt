@@ -1,6 +1,6 @@
 -- Exceptions: which handlers are tried, in which order, and what becomes of the thread.
--- Follows exception.rs, `handle_exception` of thread.rs and the page of exceptions. A place stands
--- for the Rust's iterators.
+-- Follows exception.rs, `handle_exception` of thread.rs and document 01 (Exceptions). A place stands for the Rust's
+-- iterators.
 use Prim.Native.Nat.{ℕ, zero, suc}
 use mathlib.Core.Bool.{Bool, true, false, not}
 use lib.IntN.{ℤ, pos}

@@ -1,6 +1,5 @@
--- Jobs and processes: lists, terminations upward, and killing, exiting and ending, which call one
--- another. Follows job.rs and process.rs, and the pages of jobs, processes and
--- zx_job_set_critical.
+-- Jobs and processes: lists, terminations upward, and killing, exiting and ending, which call one another. Follows
+-- job.rs and process.rs, with what their comments quote of Zircon, and document 01.
 use Prim.Native.Nat.{ℕ, zero, suc, _+_}
 use mathlib.Core.Bool.{Bool, true, false, not}
 use mathlib.Core.List.{List, [], _∷_, map}

@@ -1,5 +1,5 @@
 -- Policies of jobs and processes in the tables. Follows `set_policy_basic` of job.rs and
--- `check_policy` of process.rs, and the page of zx_job_set_policy.
+-- `check_policy` of process.rs, with what their comments quote of Zircon.
 use Prim.Native.Nat.{ℕ}
 use mathlib.Core.Bool.{Bool, true, false, not}
 use mathlib.Core.List.{List, [], _∷_}

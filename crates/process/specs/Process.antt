@@ -1,5 +1,5 @@
--- The calls on a process, over the records that they name: what a call gives, stored where the records were, is what the
--- model says of the call, whatever else the tables hold.
+-- The calls on a process, over the records that they name: what a call gives, stored where the records were, is what
+-- the model says of the call, whatever else the tables hold.
 use Prim.Native.Nat.{ℕ, _%_}
 use mathlib.Core.Path.{_≡_}
 use mathlib.Core.Bool.{Bool, not}

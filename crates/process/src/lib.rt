@@ -105,7 +105,8 @@ pub fn start(process: u8, thread: u8, q: Process, v: Thread) -> Both
 
 // -- Ending ----------------------------------------------------------------------------------
 
-// What 05 and 06 come to. Where the process exits, the threads that it lists are to be killed; it ends where it lists none.
+// What 05 and 06 come to. Where the process exits, the threads that it lists are to be killed; it ends where it lists
+// none.
 pub struct Exiting {
     pub answer: i64,
     pub exits: bool,

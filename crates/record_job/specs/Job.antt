@@ -1,4 +1,4 @@
--- The record of a job. Follows job.rs and the page of jobs.
+-- The record of a job. Follows job.rs.
 use Prim.Native.Nat.{ℕ}
 use mathlib.Core.Bool.{Bool, true, false}
 use Rattle.laws.specs.Choice.{_=?_, _and_, if_then_else_}

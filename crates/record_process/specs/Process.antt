@@ -1,4 +1,4 @@
--- The record of a process. Follows process.rs and the page of processes.
+-- The record of a process. Follows process.rs.
 use Prim.Native.Nat.{ℕ}
 use mathlib.Core.Bool.{Bool, true, false, not}
 use lib.IntN.{ℤ, pos}

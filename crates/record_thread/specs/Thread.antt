@@ -1,5 +1,4 @@
--- The record of a thread. Follows thread.rs and the page of threads. States are the numbers of
--- ThreadState.
+-- The record of a thread. Follows thread.rs. States are the numbers of ThreadState.
 use Prim.Native.Nat.{ℕ, _+_, _-_}
 use mathlib.Core.Bool.{Bool, true, false, not}
 use Rattle.laws.specs.Choice.{_=?_, _and_, _or_, if_then_else_}

@@ -1,5 +1,5 @@
--- What each arm of `feed` stores is what its call comes to: the contract of the call over records, at the tables that the
--- records were read from. Assumes nothing.
+-- What each arm of `feed` stores is what its call comes to: the contract of the call over records, at the tables that
+-- the records were read from. Assumes nothing.
 use Prim.Native.Nat.{ℕ, _%_}
 use native.Mathlib.Omega.{arith}
 use mathlib.Core.Path.{_≡_, refl, sym, ap, _∙_}
@@ -20,8 +20,8 @@ use Rattle.record_thread.specs.declared.Thread.{Thread}
 use Rattle.record_thread.specs.Thread.{FULL}
 use Rattle.record_token.specs.declared.SuspendToken.{SuspendToken}
 use Rattle.thread_lists.specs.declared.Changed.{Changed}
-use Rattle.thread_lists.specs.Each.{SUSPEND, RESUME, bars, eachUnless, hasCount}
-use Rattle.thread_lists.proofs.Unless.{barred-is}
+use Rattle.thread_lists.specs.Each.{eachUnless, hasCount}
+use Rattle.thread_lists.proofs.Unless.{full-bars, none-bars}
 use Rattle.records.specs.declared.tables.Tables.{Tables}
 use Rattle.records.specs.Tables.{jobAt, ownAt, inheritedAt, processAt, fixedAt, threadAt, tokenAt, Sized}
 use Rattle.records.specs.Tables.{putJob, putOwn, putProcess, putThread, putToken, withJobs, withThreads}
@@ -184,7 +184,8 @@ task-again DropToken kind n k e = rw e
 task-again Suspend kind n k e = refl
 task-again Resume kind n k e = refl
 
-pub task-call : (t : Tables) (c : TaskCall) (token kind n : ℕ) (k : SuspendToken) {x : TaskName} → x ≡ taskOf c kind n k →
+pub task-call : (t : Tables) (c : TaskCall) (token kind n : ℕ) (k : SuspendToken) {x : TaskName} →
+    x ≡ taskOf c kind n k →
     step t (taskCall c token (x .kind) (x .name)) ≡ step t (taskCall c token kind n)
 unfolding taskOf taskCall step
 task-call t CreateToken token kind n k e = rw e
@@ -193,14 +194,6 @@ task-call t Suspend token kind n k e = rw e
 task-call t Resume token kind n k e = rw e
 
 -- whether a thread concerned bars the change
-full-bars : (n : ℕ) (l : List Thread) → any (hasCount n FULL) l ≡ eachUnless SUSPEND n l .barred
-unfolding bars if_then_else_
-full-bars n l = sym (barred-is SUSPEND n l)
-
-none-bars : (n : ℕ) (l : List Thread) → any (hasCount n 0) l ≡ eachUnless RESUME n l .barred
-unfolding bars if_then_else_
-none-bars n l = sym (barred-is RESUME n l)
-
 pub bars-it : (c : TaskCall) (p : ℕ) (l : List Thread) {k : ℕ} {x : Changed} → k ≡ eachOf c → x ≡ eachUnless k p l →
     any (hasCount p (barring c)) l ≡ x .barred
 unfolding eachOf barring

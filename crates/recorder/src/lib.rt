@@ -1,5 +1,6 @@
 // recorder: a stream of commands, taken in parts of any size, and the lines that are written for it.
-// stream_state/specs/Recorder.antt says what is written for a part; that no cut into parts changes the whole is in `stream`.
+// stream_state/specs/Recorder.antt says what is written for a part; that no cut into parts changes the whole is in
+// `stream`.
 ghost use mathlib.Core.Path.{_≡_};
 ghost use Prim.Native.Nat.{_≤_};
 ghost use lib.ListN.{length};

@@ -103,7 +103,8 @@ job-is {r = r} {s} e f =
 pub process-is : {g : FoundProcess} {r s : Process} → g ≡ foundProcessIn r → g ≡ OldProcess s → r ≡ s
 unfolding foundProcessIn
 process-is {r = r} {s} e f =
-    found-it (λ (x : Process). OldProcess x) NoProcess (λ r s h. cc) (λ s h. let z : _≡_ {A = ℕ} 0 1 = cc in omega arith)
+    found-it (λ (x : Process). OldProcess x) NoProcess (λ r s h. cc)
+    (λ s h. let z : _≡_ {A = ℕ} 0 1 = cc in omega arith)
     (r .made) r s (sym e ∙ f)
 
 pub thread-is : {g : FoundThread} {r s : Thread} → g ≡ foundThreadIn r → g ≡ OldThread s → r ≡ s
@@ -115,7 +116,8 @@ thread-is {r = r} {s} e f =
 pub token-is : {g : FoundToken} {r s : SuspendToken} → g ≡ foundTokenIn r → g ≡ OldToken s → r ≡ s
 unfolding foundTokenIn
 token-is {r = r} {s} e f =
-    found-it (λ (x : SuspendToken). OldToken x) NoToken (λ r s h. cc) (λ s h. let z : _≡_ {A = ℕ} 0 1 = cc in omega arith)
+    found-it (λ (x : SuspendToken). OldToken x) NoToken (λ r s h. cc)
+    (λ s h. let z : _≡_ {A = ℕ} 0 1 = cc in omega arith)
     (r .held) r s (sym e ∙ f)
 
 -- and its mark is set
@@ -131,7 +133,8 @@ job-made r {s} e f =
     marked (λ (x : Job). OldJob x) NoJob (λ s h. let z : _≡_ {A = ℕ} 0 1 = cc in omega arith) (r .made) r s
     (sym e ∙ f)
 
-pub process-made : {g : FoundProcess} (r : Process) {s : Process} → g ≡ foundProcessIn r → g ≡ OldProcess s → r .made ≡ true
+pub process-made : {g : FoundProcess} (r : Process) {s : Process} → g ≡ foundProcessIn r → g ≡ OldProcess s →
+    r .made ≡ true
 unfolding foundProcessIn
 process-made r {s} e f =
     marked (λ (x : Process). OldProcess x) NoProcess (λ s h. let z : _≡_ {A = ℕ} 0 1 = cc in omega arith) (r .made) r s

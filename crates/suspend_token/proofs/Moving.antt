@@ -25,13 +25,15 @@ use Rattle.thread_lists.specs.Each.{SUSPEND, RESUME, hasCount, oneOf, eachIn, b
 use Rattle.thread_lists.proofs.Unless.{changed-is}
 use Rattle.records.specs.declared.tables.Tables.{Tables}
 use Rattle.records.specs.Tables.{jobAt, processAt, threadAt, tokenAt, putThread, putToken, withThreads}
-use Rattle.records.proofs.Kept.{job-looked-up-at, process-looked-up-at, thread-looked-up-at, token-looked-up-at, new-token}
+use Rattle.records.proofs.Kept.{job-looked-up-at, process-looked-up-at, thread-looked-up-at}
+use Rattle.records.proofs.Kept.{token-looked-up-at, new-token}
 use Rattle.records.proofs.Kept.{thread-kept, token-kept, thread-at, token-at}
 use Rattle.reply.specs.declared.Reply.{Reply}
 use Rattle.reply.specs.Reply.{answered}
 use Rattle.records.specs.declared.owners.FoundTask.{FoundTask}
 use Rattle.records.specs.Owners.{tasksOf, foundTask, madeJob, madeProcess, madeThread}
-use Rattle.model.specs.SuspendToken.{PROCESS, someAt, changeIn, changeTask, suspendTask, resumeTask, createToken, dropToken}
+use Rattle.model.specs.SuspendToken.{PROCESS, someAt, changeIn, changeTask, suspendTask}
+use Rattle.model.specs.SuspendToken.{resumeTask, createToken, dropToken}
 use Rattle.model.proofs.Answering.{answering}
 use Rattle.suspend_token.specs.declared.Task.{Task}
 use Rattle.suspend_token.specs.declared.Token.{Token}
@@ -43,7 +45,8 @@ use Rattle.suspend_token.specs.SuspendToken.{changed, taskIn, tokenIn, C
 kept : (k : ℕ) (t : Tables) (kind n : ℕ) {v : Thread} (c : ℤ) →
     threadAt t (n % 128) ≡ v → changed k t kind n (task v c false) ≡ t
 unfolding changed if_then_else_ _and_
-kept k t kind n c h = by (kind =? PROCESS) (λ a. rw a (thread-kept t (n % 128) h)) (λ a. rw a (thread-kept t (n % 128) h))
+kept k t kind n c h = by (kind =? PROCESS) (λ a. rw a (thread-kept t (n % 128) h))
+    (λ a. rw a (thread-kept t (n % 128) h))
 
 pub stays : {m : Task} (k : ℕ) (t : Tables) (kind n : ℕ) {v : Thread} (c : ℤ) →
     m ≡ task v c false → threadAt t (n % 128) ≡ v → taskIn k t kind n m ≡ answered t c
@@ -123,7 +126,8 @@ module _ (t : Tables) (kind n : ℕ) {v : Thread} (h : threadAt t (n % 128) ≡ 
     unfolding suspendedIn suspendTask
     suspends-task e = changes SUSPEND suspend t kind n h l (λ a. suspended-each n (t .threads) (u a)) e
 
-    pub suspends : {m : Task} → m ≡ suspendedIn kind v → taskIn SUSPEND t kind n m ≡ answered (suspendTask t kind n) (pos 0)
+    pub suspends : {m : Task} → m ≡ suspendedIn kind v →
+        taskIn SUSPEND t kind n m ≡ answered (suspendTask t kind n) (pos 0)
     unfolding suspendedIn taskIn
     suspends e = rw (suspends-task e, answers suspend kind v e)
 

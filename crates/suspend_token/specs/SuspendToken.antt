@@ -1,5 +1,6 @@
--- Suspending, resuming and tokens, over the records that they name: what a call gives, stored where the records were and
--- done to each thread of the process where asked, is what the model says of the call, whatever else the tables hold.
+-- Suspending, resuming and tokens, over the records that they name: what a call gives, stored where the records were
+-- and done to each thread of the process where asked, is what the model says of the call, whatever else the tables
+-- hold.
 use Prim.Native.Nat.{ℕ, _%_}
 use mathlib.Core.Path.{_≡_}
 use mathlib.Core.Bool.{Bool, true, false}
@@ -57,7 +58,8 @@ resumedIn kind v = if kind =? PROCESS then task v (pos 0) true else task (resume
 
 -- ---- What it means for the tables; n is the task's name ------------------------------------------------
 
--- where asked, k is done to each thread that process n lists, up to one that bars it; else the thread is stored where it was
+-- where asked, k is done to each thread that process n lists, up to one that bars it; else the thread is stored where
+-- it was
 unfoldable pub changed : (k : ℕ) → Tables → (kind n : ℕ) → Task → Tables
 changed k t kind n m =
     if (kind =? PROCESS) and (m .each) then withThreads t (eachUnless k n (t .threads) .threads)
@@ -84,10 +86,12 @@ Resumes f kind n v q j barred m = (t : Tables) → Concerned t kind n 0 v q j ba
 
 abbrev pub Creates : (Tables → Reply) → (new kind n : ℕ) → SuspendToken → Thread → Process → Job → Bool → Token → Type 0
 Creates f new kind n k v q j barred m =
-    (t : Tables) → tokenAt t (new % 64) ≡ k → Concerned t kind n FULL v q j barred → tokenIn SUSPEND t new kind n m ≡ f t
+    (t : Tables) → tokenAt t (new % 64) ≡ k → Concerned t kind n FULL v q j barred → tokenIn SUSPEND t new kind n m
+    ≡ f t
 
 -- a name past the table of threads has no count
 abbrev pub Drops : (Tables → Reply) → ℕ → SuspendToken → Thread → Bool → Token → Type 0
 Drops f name k v barred m =
     (t : Tables) → length (t .threads) ≡ 128 → tokenAt t (name % 64) ≡ k → threadAt t (k .name % 128) ≡ v →
-    (k .kind ≡ PROCESS → any (hasCount (k .name) 0) (t .threads) ≡ barred) → tokenIn RESUME t name (k .kind) (k .name) m ≡ f t
+    (k .kind ≡ PROCESS → any (hasCount (k .name) 0) (t .threads) ≡ barred) → tokenIn RESUME t name (k .kind)
+    (k .name) m ≡ f t

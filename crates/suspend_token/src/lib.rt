@@ -1,7 +1,8 @@
-// suspend_token: suspending and resuming a task, and tokens, over the records that they name. Follows suspend_token.rs, and
-// `suspend` and `resume` of thread.rs and process.rs. Each call stands here once: its refusals in document 01's order, then
-// its effect. Kind 1 is a process, and each thread that it lists is concerned: `barred` says whether the count of one
-// stands in the way, and `each` that each is to be changed. specs/SuspendToken.antt says what is given means for the tables.
+// suspend_token: suspending and resuming a task, and tokens, over the records that they name. Follows
+// suspend_token.rs, and `suspend` and `resume` of thread.rs and process.rs. Each call stands here once: its refusals
+// in document 01's order, then its effect. Kind 1 is a process, and each thread that it lists is concerned: `barred`
+// says whether the count of one stands in the way, and `each` that each is to be changed. specs/SuspendToken.antt
+// says what is given means for the tables.
 ghost use mathlib.Core.Bool.{false};
 ghost use mathlib.Core.Path.{_≡_};
 ghost use Rattle.records.specs.Owners.{tasksOf};
@@ -222,8 +223,8 @@ fn none_at(k: SuspendToken, v: Thread, barred: bool) -> bool
     v.suspends == 0
 }
 
-// 0e: a token dropped; v is the thread of the name that it holds. Where a thread concerned has 0, all counts and the token
-// stay.
+// 0e: a token dropped; v is the thread of the name that it holds. Where a thread concerned has 0, all counts and the
+// token stay.
 pub fn drop(token: u8, k: SuspendToken, v: Thread, barred: bool) -> Token
     ensures { λ r. ⌜ Drops (λ t. dropTokenCall t token) token k v barred r ⌝ }
 {

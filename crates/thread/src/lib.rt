@@ -1,5 +1,5 @@
-// thread: the calls on one thread, over its record alone, and its making. Follows thread.rs. Each call stands here once: its refusals in
-// document 01's order, then its effect. specs/Move.antt says what a move means for the tables.
+// thread: the calls on one thread, over its record alone, and its making. Follows thread.rs. Each call stands here
+// once: its refusals in document 01's order, then its effect. specs/Move.antt says what a move means for the tables.
 ghost use mathlib.Core.Path.{_≡_};
 ghost use Rattle.model.specs.ThreadCalls.{startThread, killThread, exitThread, finishThreadCall};
 ghost use Rattle.model.specs.ThreadCalls.{threadInformation, waitingLevel, beginWait, pollWait};

@@ -1,6 +1,7 @@
 -- A change of each thread that a process lists, up to one that bars it.
 --     Changing, begins, halts, goes-on, passes, ends   the loop: what is left, behind what is done, is the whole
 --     barred-is, changed-is, some-is           what it comes to where none bars it
+--     full-bars, none-bars                     a full count bars a suspension, a count of 0 a resumption
 -- Assumes nothing.
 use Prim.Native.Nat.{ℕ, suc, _+_, _<_, _≤_}
 use native.Mathlib.Numerals.{add-one}
@@ -14,9 +15,9 @@ use Rattle.laws.specs.Choice.{_and_, _or_, if_then_else_, ite}
 use Rattle.laws.specs.Lists.{any}
 use Rattle.laws.proofs.Cases.{by, no-both}
 use Rattle.record_thread.specs.declared.Thread.{Thread}
-use Rattle.record_thread.specs.Thread.{noThread, threadOf}
+use Rattle.record_thread.specs.Thread.{FULL, noThread, threadOf}
 use Rattle.thread_lists.specs.declared.Changed.{Changed}
-use Rattle.thread_lists.specs.Each.{oneOf, eachIn, bars, changed, eachUnless}
+use Rattle.thread_lists.specs.Each.{SUSPEND, RESUME, hasCount, oneOf, eachIn, bars, changed, eachUnless}
 
 -- threads before, and whether one of them was listed
 abbrev joined : List Thread → Bool → Changed → Changed
@@ -67,7 +68,8 @@ module _ (k p : ℕ) (l₀ l : List Thread) (s : Bool) (i : ℕ) (inv : Changing
   within h = omega arith
 
   -- the one at i, before the rest
-  next : i < 128 → (r : Changed) → eachUnless k p (here ∷ drop (suc i) l) ≡ r → eachUnless k p l₀ ≡ joined (take i l) s r
+  next : i < 128 → (r : Changed) → eachUnless k p (here ∷ drop (suc i) l) ≡ r → eachUnless k p l₀ ≡ joined
+      (take i l) s r
   next h r e = inv .1 ∙ rw (drop-cons l i noThread (within h), e)
 
   pub halts : {r b : Bool} → i < 128 → r ≡ threadOf here p → r ≡ true → b ≡ bars k here → b ≡ true →
@@ -123,3 +125,11 @@ module _ (k p : ℕ) where
   some-is (v ∷ l) e =
       by (threadOf v p and bars k v) (λ h. no-both refl (rw h at e))
       (λ h. rw h (ap (λ (b : Bool). threadOf v p or b) (some-is l (rw h at e))))
+
+pub full-bars : (n : ℕ) (l : List Thread) → any (hasCount n FULL) l ≡ eachUnless SUSPEND n l .barred
+unfolding bars if_then_else_
+full-bars n l = sym (barred-is SUSPEND n l)
+
+pub none-bars : (n : ℕ) (l : List Thread) → any (hasCount n 0) l ≡ eachUnless RESUME n l .barred
+unfolding bars if_then_else_
+none-bars n l = sym (barred-is RESUME n l)

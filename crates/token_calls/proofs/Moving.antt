@@ -16,8 +16,8 @@ use Rattle.record_thread.specs.declared.Thread.{Thread}
 use Rattle.record_thread.specs.Thread.{FULL}
 use Rattle.record_token.specs.declared.SuspendToken.{SuspendToken}
 use Rattle.thread_lists.specs.declared.Changed.{Changed}
-use Rattle.thread_lists.specs.Each.{SUSPEND, RESUME, hasCount, bars, eachUnless}
-use Rattle.thread_lists.proofs.Unless.{barred-is}
+use Rattle.thread_lists.specs.Each.{SUSPEND, RESUME, hasCount, eachUnless}
+use Rattle.thread_lists.proofs.Unless.{full-bars, none-bars}
 use Rattle.records.specs.declared.tables.Tables.{Tables}
 use Rattle.records.specs.Tables.{jobAt, processAt, threadAt, tokenAt}
 use Rattle.reply.specs.declared.Reply.{Reply}
@@ -26,15 +26,6 @@ use Rattle.suspend_token.specs.declared.Token.{Token}
 use Rattle.suspend_token.specs.SuspendToken.{changed, taskIn, tokenIn, Concerned}
 use Rattle.suspend_token.specs.SuspendToken.{Suspends, Resumes, Creates, Drops}
 use Rattle.token_calls.specs.TokenCalls.{ofEach, changedTo, taskTo, tokenTo}
-
--- a full count bars a suspension, a count of 0 a resumption
-full-bars : (n : ℕ) (l : List Thread) → any (hasCount n FULL) l ≡ eachUnless SUSPEND n l .barred
-unfolding bars if_then_else_
-full-bars n l = sym (barred-is SUSPEND n l)
-
-none-bars : (n : ℕ) (l : List Thread) → any (hasCount n 0) l ≡ eachUnless RESUME n l .barred
-unfolding bars if_then_else_
-none-bars n l = sym (barred-is RESUME n l)
 
 module _ (f : Tables → Reply) (t : Tables) (kind n : ℕ) {v : Thread} {q : Process} {j : Job}
     (a : v ≡ threadAt t (n % 128)) (b : q ≡ processAt t (n % 64)) (c : j ≡ jobAt t (n % 32)) where

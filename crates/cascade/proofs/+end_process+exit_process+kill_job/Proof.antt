@@ -280,7 +280,8 @@ pub +end-process+exit-process+kill-job-spec : {M : Type 1} → statement M
     c .terminate-job .ensures ∙ kill-empty _ _ _ (kill-marked m (e .before))
     (told (e .job-empty .ensures) (c .before .if2 .taken)))
     (λ c κs. search needs)
-    (λ c. child-first _ _ _ _ (search length-mapped) (search length-mapped) refl (c .child-from .ensures .0) (c .child-from .ensures .1))
+    (λ c. child-first _ _ _ _ (search length-mapped) (search length-mapped) refl (c .child-from .ensures .0)
+    (c .child-from .ensures .1))
     (λ c κs.
     let w = c .before .before .before .before .before in
     let l = c .before .loop in
@@ -293,10 +294,12 @@ pub +end-process+exit-process+kill-job-spec : {M : Type 1} → statement M
     let l = c .before .before in
     let r = c .child-from2 .ensures in
     let o = c .before .kill-job .ok in
-    child-turn _ _ _ _ (search (length-mapped, o)) (search (length-mapped, o)) _ _ (l .before .loop .inv) (l .loop-test .taken)
+    child-turn _ _ _ _ (search (length-mapped, o)) (search (length-mapped, o)) _ _ (l .before .loop .inv)
+    (l .loop-test .taken)
     (c .before .kill-job .ensures) (r .0) (r .1))
     (λ c κs. search needs)
-    (λ c. member-first _ _ _ _ (c .before .before .loop .inv .3) refl (c .process-from .ensures .0) (c .process-from .ensures .1))
+    (λ c. member-first _ _ _ _ (c .before .before .loop .inv .3) refl (c .process-from .ensures .0)
+    (c .process-from .ensures .1))
     (λ c κs.
     let a = c .before .before .before .before in
     let w = a .before .before .before .before in

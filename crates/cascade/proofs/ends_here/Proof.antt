@@ -13,7 +13,11 @@ ends-here-spec =
     (tie.spec
     (λ c κs. search needs)
     (λ c. rw (told (c .before .lists-thread .ensures) (c .if1 .taken)))
-    (λ c. rw (told (c .before .before .before .lists-thread .ensures) (c .before .before .if1 .left), le-leb _ _ (c .if2 .taken)))
+    (λ c. rw (
+      told (c .before .before .before .lists-thread .ensures) (c .before .before .if1 .left),
+      le-leb _ _
+          (c .if2 .taken),
+    ))
     (λ c κs. search needs)
     (λ c. rw (
       told (c .before .before .before .before .lists-thread .ensures) (c .before .before .before .if1 .left),

@@ -11,4 +11,5 @@ remove-thread-spec =
     (λ c κs. search needs)
     (λ c. first _ _ (told (c .before .lists-thread .ensures) (c .if1 .taken)) refl)
     (λ c κs. search needs)
-    (λ c. second _ _ (told (c .before .before .lists-thread .ensures) (c .before .if1 .left)) (c .end-process .ensures)))
+    (λ c. second _ _ (told (c .before .before .lists-thread .ensures) (c .before .if1 .left))
+    (c .end-process .ensures)))

@@ -27,4 +27,5 @@ handle-exception-spec =
       tokens = search (length-mapped, o .1 .1 .1 .1 .1 .1 .0);
     } in
     c .raised .ensures
-    ∙ c .before .handle-exception .ensures _ t (sym (q .before .before .thread-at .ensures)) (sym (q .process-at .ensures)) refl))
+    ∙ c .before .handle-exception .ensures _ t (sym (q .before .before .thread-at .ensures))
+    (sym (q .process-at .ensures)) refl))

@@ -19,13 +19,21 @@ raised-spec =
     (λ c κs. search needs)
     (λ c.
     let p = c .before .before .before .before in
-    let f : SFits w64 (c .before .before .before .before .before .before .before .before .before .before .args .m .answer) = search needs in
+    let a = p .before .before .before .before .before .before .args in
+    let f : SFits w64 (a .m .answer) = search needs in
     rw (c .before .before .before .if1 .taken)
-    (simp (toZ-ofZ {w = w64} f, c .before .before .exit-listed .ensures, p .with-process .ensures, p .before .with-thread .ensures) at
+    (simp (
+      toZ-ofZ {w = w64} f,
+      c .before .before .exit-listed .ensures,
+      p .with-process .ensures,
+      p .before .with-thread .ensures,
+    ) at
     (c .with-fields .ensures)))
     (λ c κs. search needs)
     (λ c.
     let p = c .before .before .before in
-    let f : SFits w64 (c .before .before .before .before .before .before .before .before .before .args .m .answer) = search needs in
+    let a = p .before .before .before .before .before .before .args in
+    let f : SFits w64 (a .m .answer) = search needs in
     rw (c .before .before .if1 .left)
-    (simp (toZ-ofZ {w = w64} f, p .with-process .ensures, p .before .with-thread .ensures) at (c .with-fields2 .ensures))))
+    (simp (toZ-ofZ {w = w64} f, p .with-process .ensures, p .before .with-thread .ensures) at
+    (c .with-fields2 .ensures))))

@@ -12,7 +12,8 @@ use Rattle.lists.proofs.process_from.Tie as tie
 
 abbrev Inv-loop : tie.InvT-loop
 Inv-loop j from processes i₀ i =
-    (length processes ≡ 64) × (next (λ v. memberOf v j) processes i ≡ next (λ v. memberOf v j) processes from) × (i ≤ 255)
+    (length processes ≡ 64) × (next (λ v. memberOf v j) processes i ≡ next (λ v. memberOf v j) processes from) ×
+    (i ≤ 255)
 
 abbrev μ-loop : tie.MeasureT-loop
 μ-loop j from processes i₀ i = 64 - i

@@ -43,7 +43,8 @@ module _ (c : tie.Else4) {x : Reply} (t : Tables)
   denied a e = let b = same-job c t ∙ a in search moving depth 20
 
   accepted : atOrAbove t (began c .args .job) (began c .args .q .job) ≡ true →
-      x ≡ answered (putProcess t (began c .args .process) (bindTo (old c) (began c .args .job) (began c .args .flag =? 1)))
+      x ≡ answered (putProcess t (began c .args .process)
+      (bindTo (old c) (began c .args .job) (began c .args .flag =? 1)))
       (pos 0) →
       x ≡ setCriticalAtJob t (began c .args .process) (began c .args .job) (began c .args .flag)
   unfolding setCriticalAtJob
@@ -81,4 +82,5 @@ set-critical-at-job-spec =
     (λ c t h k a.
     let e = c .before .before .before in
     let m = simp (c .before .bind-to .ensures) at (c .new8 .ensures) in
-    accepted e t h k (a ∙ not-false _ (c .before .before .if5 .left)) (stores t _ _ _ m (e .before .before .before .before .before .before .before .before .before .before .if2 .left))))
+    accepted e t h k (a ∙ not-false _ (c .before .before .if5 .left))
+    (stores t _ _ _ m (e .before .before .before .before .before .before .before .before .before .before .if2 .left))))

@@ -105,5 +105,6 @@ create-spec =
     let l = within t _ _ 65535 h (bound s) (ne-eqb _ _ (s .before .if5 .left)) in
     let k = simp (c .before .before .new .ensures) at (c .new2 .ensures) in
     accepted s t o h (c .before .before .before .if6 .left)
-    (creates t _ _ (h .0) l (unbarred t _ _ 65535 h (bound s) (s .some-at .ensures) (c .before .before .before .if6 .left)) _
+    (creates t _ _ (h .0) l (unbarred t _ _ 65535 h (bound s) (s .some-at .ensures)
+    (c .before .before .before .if6 .left)) _
     (c .before .suspended .ensures) k (new-bound s))))

@@ -48,7 +48,8 @@ module _ (c : tie.After-none-at) (t : Tables) (z : length (t .threads) ≡ 128)
   counts : c .none-at .result ≡ someAt t (it c .kind) (it c .name) 0
   counts = none-is t (it c) h g z (tested c)
 
-  barred : {x : Reply} → c .none-at .result ≡ true → x ≡ answered t (pos 106) → x ≡ dropTokenCall t (began c .args .token)
+  barred : {x : Reply} → c .none-at .result ≡ true → x ≡ answered t (pos 106) →
+      x ≡ dropTokenCall t (began c .args .token)
   unfolding dropTokenCall
   barred b e = let f = looked-up in let s = counts in search (moving, f, s) depth 20
 

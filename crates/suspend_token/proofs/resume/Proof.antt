@@ -27,7 +27,8 @@ bound c =
 module _ (c : tie.After-some-at) {x : Reply} (t : Tables)
     (h : Concerned t (began c .args .kind) (began c .args .name) 0 (began c .args .v) (began c .args .q)
     (began c .args .j) (began c .args .barred)) where
-  barred : c .some-at .result ≡ true → x ≡ answered t (pos 106) → x ≡ resumeCall t (began c .args .kind) (began c .args .name)
+  barred : c .some-at .result ≡ true → x ≡ answered t (pos 106) →
+      x ≡ resumeCall t (began c .args .kind) (began c .args .name)
   unfolding resumeCall
   barred b e =
       let g = task-found t _ _ 0 h (bound c) (c .before .before .before .before .found-task .ensures) in

@@ -27,7 +27,8 @@ bound c =
 module _ (c : tie.After-some-at) {x : Reply} (t : Tables)
     (h : Concerned t (began c .args .kind) (began c .args .name) 65535 (began c .args .v) (began c .args .q)
     (began c .args .j) (began c .args .barred)) where
-  barred : c .some-at .result ≡ true → x ≡ answered t (pos 107) → x ≡ suspendCall t (began c .args .kind) (began c .args .name)
+  barred : c .some-at .result ≡ true → x ≡ answered t (pos 107) →
+      x ≡ suspendCall t (began c .args .kind) (began c .args .name)
   unfolding suspendCall
   barred b e =
       let g = task-found t _ _ 65535 h (bound c) (c .before .before .before .before .found-task .ensures) in
@@ -77,5 +78,6 @@ suspend-spec =
     (λ c t h.
     let s = c .before .before in
     let e = s .before in
-    accepted s t h (c .before .if4 .left) (suspends t _ _ (h .0) (within t _ _ 65535 h (bound s) (ne-eqb _ _ (e .if3 .left)))
+    accepted s t h (c .before .if4 .left) (suspends t _ _ (h .0)
+    (within t _ _ 65535 h (bound s) (ne-eqb _ _ (e .if3 .left)))
     (unbarred t _ _ 65535 h (bound s) (s .some-at .ensures) (c .before .if4 .left)) (c .suspended .ensures))))

@@ -43,7 +43,8 @@ each-unless-spec =
     let o = b .before .before in
     let l = o .before .before .before in (
       search (needs, length-set),
-      goes-on _ _ _ _ _ _ (l .loop .inv) (o .before .before .loop-test .taken) (o .thread-of .ensures) (b .before .if1 .taken)
+      goes-on _ _ _ _ _ _ (l .loop .inv) (o .before .before .loop-test .taken) (o .thread-of .ensures)
+          (b .before .if1 .taken)
           (b .bars .ensures) (c .before .if2 .left) (c .one-of .ensures),
     ))
     (λ c. search needs)
