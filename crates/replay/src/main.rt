@@ -1,5 +1,5 @@
 // replay: holds the library to the lists in data/ and the lines that the Rust wrote for them. Writes a line for each
-// pack, and ends at the first list that differs.
+// pack, up to its first list that differs.
 mod list;
 mod pack;
 
@@ -52,7 +52,8 @@ fn next(
     out: &mut [u8],
     want: &mut [u8],
 ) -> Total {
-    match pack::next_length(calls) {
+    let mut bytes = [0u8; 4];
+    match pack::next_length(calls, &mut bytes) {
         Length::End => total.ended(),
         Length::Cut => total.with(pack::cut(pack::lines_from(calls, 0))),
         Length::Of(n) => {
@@ -114,13 +115,13 @@ fn report(name: &[u8], total: Total) {
 }
 
 // Replays a pack. One descriptor reads the calls, the other the lines.
-fn agrees(name: &[u8]) -> bool {
+fn replay_pack(name: &[u8]) {
     let calls = os::open_read(name);
     let lines = os::open_read(name);
     if calls < 0 || lines < 0 {
         put(name);
         put(b": missing\n");
-        return false;
+        return;
     }
     let mut buf = io::large_buffer();
     let mut out = io::buffer();
@@ -129,11 +130,17 @@ fn agrees(name: &[u8]) -> bool {
     report(name, total);
     libc::close(calls);
     libc::close(lines);
-    total.same
 }
 
-// The packs, a line for each.
+// The packs that have to agree, and four that must not, so that a replay that finds nothing shows. The second list of
+// each has a byte of its lines changed, lacks its last line, has a line too many, or is cut.
 fn main() {
-    let recorded = agrees(b"named.pack") && agrees(b"counts.pack") && agrees(b"random.pack");
-    let _all = recorded && agrees(b"manual.pack");
+    replay_pack(b"named.pack");
+    replay_pack(b"counts.pack");
+    replay_pack(b"random.pack");
+    replay_pack(b"manual.pack");
+    replay_pack(b"wrong.pack");
+    replay_pack(b"short.pack");
+    replay_pack(b"left.pack");
+    replay_pack(b"cut.pack");
 }
