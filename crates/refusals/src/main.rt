@@ -1,5 +1,7 @@
 // refusals: each entry point turned back at each row of document 01's table that it has, in its order. Writes the
-// command's number, in decimal, and the answer.
+// command's number, in decimal, and the answer. Then policy lists that are lent, in `slices`.
+mod slices;
+
 use job_policy::BasicPolicy;
 use job_policy::JobPolicy;
 use job_policy::TimerSlackPolicy;
@@ -263,4 +265,5 @@ fn main() {
     suspends(t);
     levels(t);
     handlers(t);
+    slices::all();
 }
