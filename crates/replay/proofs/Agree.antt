@@ -3,7 +3,7 @@
 use Prim.Native.Nat.{ℕ, zero, suc, _+_, _-_, _<_, _≤_}
 use mathlib.Core.Path.{_≡_, refl, sym, _∙_, ap}
 use mathlib.Core.Bool.{Bool, true, false}
-use mathlib.Core.List.{List, [], _∷_}
+use mathlib.Core.List.{List, [], _∷_, _++_}
 use native.Mathlib.Numerals.{add-one}
 use native.Mathlib.Omega.{arith}
 use mathlib.Core.Logic.{_⊎_, inl, inr, ⊎-elim}
@@ -12,9 +12,11 @@ use native.Mathlib.Nat.{le-of-eq}
 use lib.Dec.{leb, eqb·zero-suc, eqb·suc-suc}
 use lib.ListN.{length, getD, take, drop, length-drop, drop-of-length-le}
 use lib.Seq.{drop-cons, take-all}
-use Rattle.laws.specs.Choice.{_<?_, _=?_, _and_, ite}
+use Rattle.laws.specs.Choice.{_<?_, _=?_, _and_, if_then_else_, ite}
 use Rattle.replay.specs.declared.pack.Lines.{Lines}
 use Rattle.replay.specs.Agree.{common, begins, isStop, capped, smaller, judged}
+use Rattle.replay.specs.Agree.{cutOff, over, passed, Event, compared, callsEnd, after}
+use Rattle.replay.specs.Agree.{Follows, Finishes, Replays, Compares}
 
 either : (t : Bool) → (t ≡ true) ⊎ (t ≡ false)
 either true = inl refl
@@ -91,3 +93,56 @@ pub some-written : (l : Lines) (w r : List ℕ) → (length w ≡ 0 → ⊥) →
 unfolding judged
 some-written l [] r h = absurd (h refl)
 some-written l (x ∷ w) r h = rw (all-common (x ∷ w) r)
+
+-- ---- A whole list --------------------------------------------------------------------------
+
+after-both : (l : Lines) (a b : List Event) → after (after l a) b ≡ after l (a ++ b)
+unfolding after
+after-both l [] b = refl
+after-both l (compared w r ∷ a) b = after-both (judged l w r) a b
+after-both l (callsEnd ∷ a) b = after-both (cutOff l) a b
+
+pub stays : {l r : Lines} → r ≡ l → Follows l r
+unfolding after
+stays e = record { events = []; are = e }
+
+pub and-then : {l m r : Lines} → Follows l m → Follows m r → Follows l r
+and-then f g = record {
+  events = f .events ++ g .events;
+  are = g .are ∙ ap (λ (k : Lines). after k (g .events)) (f .are) ∙ after-both _ (f .events) (g .events);
+}
+
+pub compares : {l r : Lines} {w want : List ℕ} → Compares l w want r → Follows l r
+unfolding after
+compares {w = w} {want = want} c = record { events = compared w (take (c .got) want) ∷ []; are = c .judges }
+
+pub cuts : {l r : Lines} → r ≡ cutOff l → Follows l r
+unfolding after
+cuts e = record { events = callsEnd ∷ []; are = e }
+
+pub finishes : {l m r : Lines} (holds : Bool) → Follows l m → r ≡ over m holds → Finishes l r
+finishes holds f e = record {
+  events = f .events;
+  holds = holds;
+  are = e ∙ ap (λ (k : Lines). over k holds) (f .are);
+}
+
+-- where something differed, the end of the list changes nothing
+pub over-none : (l : Lines) (holds : Bool) → l .same ≡ false → l ≡ over l holds
+unfolding _and_
+over-none l holds e = rw e
+
+pub differed : (l : Lines) → l .same ≡ false → Replays l l
+unfolding after passed if_then_else_ _and_
+differed l e = record { events = []; holds = false; there = true; are = rw e }
+
+pub replays : {l m r s : Lines} → Follows l m → Finishes m r → (there : Bool) × (s ≡ passed r there) → Replays l s
+replays f g h =
+    let e = g .are ∙ ap (λ (k : Lines). over (after k (g .events)) (g .holds)) (f .are)
+    ∙ ap (λ (k : Lines). over k (g .holds)) (after-both _ (f .events) (g .events)) in
+    record {
+      events = f .events ++ g .events;
+      holds = g .holds;
+      there = h .0;
+      are = h .1 ∙ ap (λ (k : Lines). passed k (h .0)) e;
+    }

@@ -94,3 +94,33 @@ linesBehind fd (Of n) = linesFrom fd n
 -- the lines were passed over in the file of calls, or it ends among them
 unfoldable pub passed : Lines → Bool → Lines
 passed l there = if l .same then (if there then l else cutOff l) else l
+
+-- ---- A whole list --------------------------------------------------------------------------
+
+-- what happens to a list's lines: they are compared with what was written, or the file of calls ends too early
+pub data Event : Type 0 where
+  compared : (written came : List ℕ) → Event
+  callsEnd : Event
+
+unfoldable pub after : Lines → List Event → Lines
+after l [] = l
+after l (compared w r ∷ es) = after (judged l w r) es
+after l (callsEnd ∷ es) = after (cutOff l) es
+
+-- r is l after some events
+pub record Follows (l r : Lines) : Type 0 where
+  pub events : List Event
+  pub are : r ≡ after l events
+
+-- the same, and then the end of the list
+pub record Finishes (l r : Lines) : Type 0 where
+  pub events : List Event
+  pub holds : Bool
+  pub are : r ≡ over (after l events) holds
+
+-- the same, and then the lines are passed over in the file of calls
+pub record Replays (l r : Lines) : Type 0 where
+  pub events : List Event
+  pub holds : Bool
+  pub there : Bool
+  pub are : r ≡ passed (over (after l events) holds) there

@@ -3,6 +3,7 @@
 ghost use Prim.Native.Nat.{_≤_};
 ghost use mathlib.Core.Path.{_≡_};
 ghost use lib.ListN.{length};
+ghost use Rattle.replay.specs.Agree.{Follows, Finishes, Replays};
 use crate::pack;
 use crate::pack::Lines;
 use stream_state::State;
@@ -23,6 +24,7 @@ struct Progress {
 // Goes on unless a line differed or the recorder finished.
 fn stands(state: State, lines: Lines, have: usize, finished: bool) -> Progress
     ensures { λ r. ⌜ r .have ≡ have ⌝ }
+    ensures { λ r. ⌜ r .lines ≡ lines ⌝ }
 {
     Progress {
         state,
@@ -36,6 +38,7 @@ fn stands(state: State, lines: Lines, have: usize, finished: bool) -> Progress
 // Calls the recorder on what is there until no whole call is left, and compares the lines.
 fn drain(state: State, recorded: Lines, buf: &[u8], out: &mut [u8], want: &mut [u8]) -> Progress
     ensures { λ r. ⌜ r .have ≤ length (now (buf .entry)) ⌝ }
+    ensures { λ r. ⌜ Follows recorded (r .lines) ⌝ }
 {
     let mut s = state;
     let mut lines = recorded;
@@ -78,7 +81,9 @@ fn turn(
     buf: &mut [u8],
     out: &mut [u8],
     want: &mut [u8],
-) -> Progress {
+) -> Progress
+    ensures { λ r. ⌜ Follows (p .lines) (r .lines) ⌝ }
+{
     let have = pack::least(p.have, buf.len());
     let state = p.state;
     let lines = p.lines;
@@ -99,7 +104,9 @@ fn turn(
 }
 
 // The end of the calls. The last line is a stop if the recorder finished there or a cut call is left, and only then.
-fn finish(p: Progress, buf: &mut [u8], out: &mut [u8], want: &mut [u8]) -> Lines {
+fn finish(p: Progress, buf: &mut [u8], out: &mut [u8], want: &mut [u8]) -> Lines
+    ensures { λ r. ⌜ Finishes (p .lines) r ⌝ }
+{
     let state = p.state;
     let lines = p.lines;
     if p.finished {
@@ -122,7 +129,9 @@ fn run(
     buf: &mut [u8],
     out: &mut [u8],
     want: &mut [u8],
-) -> Progress {
+) -> Progress
+    ensures { λ r. ⌜ Follows recorded (r .lines) ⌝ }
+{
     let mut p = stands(stream_state::fresh(), recorded, 0, false);
     let mut unread = length;
     while unread > 0 {
@@ -141,7 +150,9 @@ pub fn replay(
     buf: &mut [u8],
     out: &mut [u8],
     want: &mut [u8],
-) -> Lines {
+) -> Lines
+    ensures { λ r. ⌜ Replays recorded r ⌝ }
+{
     if !recorded.same {
         return recorded;
     }

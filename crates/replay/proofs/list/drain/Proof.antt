@@ -5,12 +5,14 @@ use mathlib.Core.Path.{_≡_, refl, _∙_}
 use native.Mathlib.Omega.{arith}
 use lib.ListN.{length, length-take, length-drop}
 use borrow.Author.Needs.{needs}
+use Rattle.replay.specs.Agree.{Follows}
+use Rattle.replay.proofs.Agree.{stays, and-then, compares}
 use Rattle.replay.proofs.list.drain.Statement.{statement}
 use Rattle.replay.proofs.list.drain.Tie as tie
 
 abbrev Inv-loop : tie.InvT-loop
 Inv-loop buf out₀ want₀ s₀ lines₀ at₀ out want s lines at =
-    (at ≤ length buf) × ((length out ≡ length out₀) × (length want ≡ length want₀))
+    (at ≤ length buf) × ((length out ≡ length out₀) × ((length want ≡ length want₀) × Follows lines₀ lines))
 
 abbrev μ-loop : tie.MeasureT-loop
 μ-loop buf out₀ want₀ s₀ lines₀ at₀ out want s lines at = length buf - at
@@ -36,7 +38,11 @@ same-out : (c : After) → length (fed c .feed .last .1 .1 .0) ≡ length (start
 same-out c = fed c .feed .kept .1 .1 .0 ∙ top c .loop .inv .1 .0
 
 same-want : (c : After) → length (c .before .before .compare .last .1 .1 .0) ≡ length (start c .args .want .now)
-same-want c = c .before .before .compare .kept .1 .1 .0 ∙ top c .loop .inv .1 .1
+same-want c = c .before .before .compare .kept .1 .1 .0 ∙ top c .loop .inv .1 .1 .0
+
+-- the lines stand as all comparisons so far say
+followed : (c : After) → Follows (start c .args .recorded) (c .before .before .compare .result)
+followed c = and-then (top c .loop .inv .1 .1 .1) (compares (c .before .before .compare .ensures))
 
 pub drain-spec : {M : Type 1} → statement M
 drain-spec =
@@ -44,7 +50,7 @@ drain-spec =
     (tie.spec
     Inv-loop
     μ-loop
-    (λ c. (search needs, (refl, refl)))
+    (λ c. (search needs, (refl, (refl, stays refl))))
     (λ c. search needs)
     (λ c. search needs)
     (λ c. search needs)
@@ -56,15 +62,15 @@ drain-spec =
     (λ c κs. search needs)
     (λ c. same-out (c .before .before .before))
     (λ c. same-want (c .before .before .before))
-    (λ c. search needs)
+    (λ c. (search needs, and-then (followed (c .before .before .before)) (stays (c .stands .ensures .1))))
     (λ c. moved (c .before .before .before .before))
     (λ c κs. search needs)
     (λ c. same-out (c .before .before .before .before .before))
     (λ c. same-want (c .before .before .before .before .before))
-    (λ c. search needs)
+    (λ c. (search needs, and-then (followed (c .before .before .before .before .before)) (stays (c .stands2 .ensures .1))))
     (λ c. omega (arith, moved (c .before .before .before .before), c .if3 .left))
-    (λ c. let k = c .before .before .before .before in (moved k, (same-out k, same-want k)))
+    (λ c. let k = c .before .before .before .before in (moved k, (same-out k, (same-want k, followed k))))
     (λ c κs. search needs)
     (λ c. c .before .before .loop .inv .1 .0)
-    (λ c. c .before .before .loop .inv .1 .1)
-    (λ c. search needs))
+    (λ c. c .before .before .loop .inv .1 .1 .0)
+    (λ c. (search needs, and-then (c .before .before .loop .inv .1 .1 .1) (stays (c .stands3 .ensures .1)))))
