@@ -23,7 +23,7 @@ pub fn put_text(out: &mut [u8], at: usize, text: &[u8]) -> usize {
     o
 }
 
-pub fn put_decimal(out: &mut [u8], at: usize, n: u64) -> usize {
+fn put_decimal(out: &mut [u8], at: usize, n: u64) -> usize {
     let mut digits = [0u8; 20];
     let k = io::decimal(n, &mut digits);
     put_text(out, at, &digits[..k])

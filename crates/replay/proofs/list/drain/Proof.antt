@@ -67,7 +67,9 @@ drain-spec =
     (λ c κs. search needs)
     (λ c. same-out (c .before .before .before .before .before))
     (λ c. same-want (c .before .before .before .before .before))
-    (λ c. (search needs, and-then (followed (c .before .before .before .before .before)) (stays (c .stands2 .ensures .1))))
+    (λ c.
+    let k = c .before .before .before .before .before in
+    (search needs, and-then (followed k) (stays (c .stands2 .ensures .1))))
     (λ c. omega (arith, moved (c .before .before .before .before), c .if3 .left))
     (λ c. let k = c .before .before .before .before in (moved k, (same-out k, (same-want k, followed k))))
     (λ c κs. search needs)
