@@ -1,5 +1,5 @@
--- A job's policy: fifteen entries, 0 for none and a + 1 for the action a. Follows job_policy.rs. A condition of 15 or more has no entry, and an action of 5 or
--- more is no action: nothing is set.
+-- A job's policy: fifteen entries, 0 for none and a + 1 for the action a. Follows job_policy.rs. A condition of 15
+-- or more has no entry, and an action of 5 or more is no action: nothing is set.
 use Prim.Native.Nat.{ℕ, _+_, _-_, _<_}
 use mathlib.Core.Path.{_≡_}
 use lib.ListN.{getD, set, replicate}

@@ -1,7 +1,7 @@
--- `lent` meets its contract: a walk of its MIR, by hand. All that it knows of `set_policy_basic` is that it meets its
--- contract. The array's memory is cut at n, its front is lent for a lifetime that is made for the call, and the two parts are
--- joined again once that is over. All else is plain data, so what it owns is made from nothing where it is wanted.
--- Assumes nothing.
+-- `lent` meets its contract: a walk of its MIR, by hand. All that it knows of `set_policy_basic` is that it meets
+-- its contract. The array's memory is cut at n, its front is lent for a lifetime that is made for the call, and the
+-- two parts are joined again once that is over. All else is plain data, so what it owns is made from nothing where
+-- it is wanted. Assumes nothing.
 use mathlib.Core.Path.{_≡_, refl, sym, _∙_, ap}
 use Prim.Native.Nat.{ℕ, _<_, _≤_, _^_}
 use mathlib.Core.List.{List, [], _∷_, _++_}
