@@ -27,7 +27,7 @@ use thread::{Both, Finishing, Move};
 use thread_lists::Each;
 
 // 09 to 0c, 16 to 1a, and 12, 13 at level 2: on one thread.
-#[derive(Drop)]
+#[derive(Clone, Copy)]
 pub enum ThreadCall {
     Start,
     Kill,
@@ -42,14 +42,14 @@ pub enum ThreadCall {
 }
 
 // 04 08: on a process and a thread.
-#[derive(Drop)]
+#[derive(Clone, Copy)]
 pub enum PairCall {
     StartProcess,
     CreateThread,
 }
 
 // 05 to 07, and 12, 13 at levels 1 and 3: on a process, beside a job.
-#[derive(Drop)]
+#[derive(Clone, Copy)]
 pub enum ProcessCall {
     ExitWith(i64),
     KillProcess,
@@ -58,7 +58,7 @@ pub enum ProcessCall {
 }
 
 // 02 0f 10, and 12, 13 at levels 4 and 5: on a job.
-#[derive(Drop)]
+#[derive(Clone, Copy)]
 pub enum JobCall {
     KillJob,
     SetPolicy(u8, u8),
@@ -67,7 +67,7 @@ pub enum JobCall {
 }
 
 // 11 1b 1c 1d: nothing is changed.
-#[derive(Drop)]
+#[derive(Clone, Copy)]
 pub enum ShowCall {
     CheckPolicy(u8),
     JobInformation,
@@ -76,14 +76,14 @@ pub enum ShowCall {
 }
 
 // 14 15: on a thread's exception.
-#[derive(Drop)]
+#[derive(Clone, Copy)]
 pub enum ExceptionCall {
     Raise(u16),
     Close,
 }
 
 // 0d 0e 1e 1f: on a task, and a token.
-#[derive(Drop)]
+#[derive(Clone, Copy)]
 pub enum TaskCall {
     CreateToken,
     DropToken,
@@ -92,7 +92,7 @@ pub enum TaskCall {
 }
 
 // A call by the records that it names.
-#[derive(Drop)]
+#[derive(Clone, Copy)]
 pub enum Command {
     NoCall,
     BadLevel(ChannelCall, u8, u8),
@@ -269,7 +269,7 @@ pub fn shows(
 }
 
 // The task that a call is on: a dropped token's own.
-#[derive(Drop)]
+#[derive(Clone, Copy)]
 pub struct TaskName {
     pub kind: u8,
     pub name: u8,

@@ -7,7 +7,7 @@ ghost use Rattle.commands.specs.Commands.{size_of, next_of};
 use job_policy::BasicPolicy;
 
 // What stands at the front of some bytes: too few for a command, no command, or one of so many bytes.
-#[derive(Drop)]
+#[derive(Clone, Copy)]
 pub enum Next {
     Wait,
     Stop,

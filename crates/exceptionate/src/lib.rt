@@ -23,7 +23,7 @@ use thread::Move;
 // -- Channels: the ladder of each call, over a level that was looked up ------------------------
 
 // 12 and 13.
-#[derive(Drop)]
+#[derive(Clone, Copy)]
 pub enum ChannelCall {
     CreateChannel,
     HangUp,

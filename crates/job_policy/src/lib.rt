@@ -64,7 +64,7 @@ impl PolicyAction {
 }
 
 // An entry to set.
-#[derive(Drop)]
+#[derive(Clone, Copy)]
 pub struct BasicPolicy {
     pub condition: u8,
     pub action: u8,
@@ -73,13 +73,13 @@ pub struct BasicPolicy {
 // -- The policy ----------------------------------------------------------------------------
 
 // Entry 0 is none, a + 1 the action a.
-#[derive(Drop)]
+#[derive(Clone, Copy)]
 pub struct JobPolicy {
     pub action: [u8; 15],
 }
 
 // An action, or none.
-#[derive(Drop)]
+#[derive(Clone, Copy)]
 pub enum ActionFound {
     Unset,
     Action(u8),
@@ -170,7 +170,7 @@ impl Slack {
     pub const LATE: u8 = 2;
 }
 
-#[derive(Drop)]
+#[derive(Clone, Copy)]
 pub struct TimerSlackPolicy {
     pub slack: i64,
     pub mode: u8,
@@ -185,7 +185,7 @@ fn larger(a: i64, b: i64) -> i64
     a
 }
 
-#[derive(Drop)]
+#[derive(Clone, Copy)]
 pub struct TimerSlack {
     pub amount: i64,
     pub mode: u8,

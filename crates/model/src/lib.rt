@@ -9,7 +9,7 @@ use record_exception::Place;
 use records::tables::Tables;
 
 // The order of handlers that an exception type takes.
-#[derive(Drop)]
+#[derive(Clone, Copy)]
 pub enum Route {
     Ordinary,
     JobDebuggers,
@@ -20,7 +20,7 @@ pub enum Route {
 }
 
 // Who takes an exception.
-#[derive(Drop)]
+#[derive(Clone, Copy)]
 pub enum Handler {
     Nobody,
     HandlerAt(Place),

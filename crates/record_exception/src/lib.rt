@@ -6,7 +6,7 @@ ghost use Rattle.record_exception.specs.Exception.{level_of, current_level, exce
 
 // -- Levels --------------------------------------------------------------------------------
 
-#[derive(Drop)]
+#[derive(Clone, Copy)]
 pub enum Level {
     Unbound,
     Bound,
@@ -82,7 +82,7 @@ impl ExceptionType {
 }
 
 // Where an exception waits. The order of handlers is worked out from it.
-#[derive(Drop)]
+#[derive(Clone, Copy)]
 pub enum Place {
     // The process debugger, first.
     Debugger,
@@ -96,7 +96,7 @@ pub enum Place {
     Exiting,
 }
 
-#[derive(Drop)]
+#[derive(Clone, Copy)]
 pub struct Exception {
     pub kind: u16,
     pub place: Place,

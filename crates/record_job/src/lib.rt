@@ -8,13 +8,13 @@ use job_policy::TimerSlack;
 use record_exception::Level;
 
 // The root and an unmade job have no parent.
-#[derive(Drop)]
+#[derive(Clone, Copy)]
 pub enum Parent {
     Orphan,
     ChildOf(u8),
 }
 
-#[derive(Drop)]
+#[derive(Clone, Copy)]
 pub struct Job {
     pub made: bool,
     // On its parent's list.
@@ -29,7 +29,7 @@ pub struct Job {
 }
 
 // What the name of a job stands for: a record, or an absence.
-#[derive(Drop)]
+#[derive(Clone, Copy)]
 pub enum FoundJob {
     NoJob,
     OldJob(Job),

@@ -8,7 +8,7 @@ ghost use Rattle.record_process.specs.Process.{member_of};
 
 use record_exception::Level;
 
-#[derive(Drop)]
+#[derive(Clone, Copy)]
 pub enum Status {
     Init,
     Running,
@@ -16,13 +16,13 @@ pub enum Status {
 }
 
 // The job that the end of a process kills, and whether only a nonzero code does so.
-#[derive(Drop)]
+#[derive(Clone, Copy)]
 pub enum Critical {
     Free,
     To { job: u8, nonzero: bool },
 }
 
-#[derive(Drop)]
+#[derive(Clone, Copy)]
 pub struct Process {
     pub made: bool,
     // On its job's list.
@@ -38,7 +38,7 @@ pub struct Process {
 }
 
 // What the name of a process stands for: a record, or an absence.
-#[derive(Drop)]
+#[derive(Clone, Copy)]
 pub enum FoundProcess {
     NoProcess,
     OldProcess(Process),

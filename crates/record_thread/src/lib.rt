@@ -46,7 +46,7 @@ impl ThreadState {
 }
 
 // What a thread waits for: nothing, the end of a plain wait, or a handler.
-#[derive(Drop)]
+#[derive(Clone, Copy)]
 pub enum Waiting {
     NotWaiting,
     InWait,
@@ -54,7 +54,7 @@ pub enum Waiting {
 }
 
 // The signals that a thread's shown state asserts.
-#[derive(Drop)]
+#[derive(Clone, Copy)]
 pub enum Signals {
     NoSignal,
     RunningSignal,
@@ -62,7 +62,7 @@ pub enum Signals {
     TerminatedSignal,
 }
 
-#[derive(Drop)]
+#[derive(Clone, Copy)]
 pub struct Thread {
     pub made: bool,
     // On its process's list.
@@ -81,14 +81,14 @@ pub struct Thread {
 }
 
 // What the name of a thread stands for: a record, or an absence.
-#[derive(Drop)]
+#[derive(Clone, Copy)]
 pub enum FoundThread {
     NoThread,
     OldThread(Thread),
 }
 
 // An exception that a handler has, or none.
-#[derive(Drop)]
+#[derive(Clone, Copy)]
 pub enum FoundException {
     NoException,
     Held(Exception),

@@ -15,7 +15,7 @@ impl Kind {
     pub const THREAD: u8 = 2;
 }
 
-#[derive(Drop)]
+#[derive(Clone, Copy)]
 pub struct SuspendToken {
     pub made: bool,
     pub held: bool,
@@ -24,7 +24,7 @@ pub struct SuspendToken {
 }
 
 // What the name of a token stands for: a record, or an absence.
-#[derive(Drop)]
+#[derive(Clone, Copy)]
 pub enum FoundToken {
     NoToken,
     OldToken(SuspendToken),

@@ -6,7 +6,7 @@ use record_exception::Level;
 
 // -- Levels: 1 and 3 are a process's, 2 is a thread's, 4 and 5 are a job's ---------------------
 
-#[derive(Drop)]
+#[derive(Clone, Copy)]
 pub enum FoundLevel {
     NoLevel,
     OldLevel(Level),
@@ -27,7 +27,7 @@ pub fn owners_of(level: u8) -> u8
 
 // -- Tasks: kind 0 is a job, 1 a process, 2 a thread --------------------------------------------
 
-#[derive(Drop)]
+#[derive(Clone, Copy)]
 pub enum FoundTask {
     NoTask,
     OldTask,

@@ -9,7 +9,7 @@ use record_process::Process;
 use record_thread::Thread;
 use record_token::SuspendToken;
 
-#[derive(Drop)]
+#[derive(Clone, Copy)]
 pub struct Tables {
     pub jobs: [Job; 32],
     // What a job's own policy lists set, and what it inherited when it was made.

@@ -8,7 +8,7 @@ ghost use Rattle.replay.specs.Agree.{lines_from, cut_off, judged, over, passed};
 ghost use Rattle.replay.specs.Agree.{lines_behind, Compares};
 
 // What stands where a length is read.
-#[derive(Drop)]
+#[derive(Clone, Copy)]
 pub enum Length {
     End,
     Cut,
@@ -16,7 +16,7 @@ pub enum Length {
 }
 
 // How far the recorded lines of a list are compared: `at` bytes of `end` agreed.
-#[derive(Drop)]
+#[derive(Clone, Copy)]
 pub struct Lines {
     pub fd: i32,
     pub at: usize,

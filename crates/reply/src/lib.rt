@@ -6,7 +6,7 @@ use job_policy::JobPolicy;
 use records::tables::Tables;
 
 // The fields after the answer. The policy of a job's information stands beside, in the reply.
-#[derive(Drop)]
+#[derive(Clone, Copy)]
 pub enum Fields {
     NoFields,
     // 14 and 15: the owner of the level that has the exception, 0 where none.
@@ -31,7 +31,7 @@ pub enum Fields {
     },
 }
 
-#[derive(Drop)]
+#[derive(Clone, Copy)]
 pub struct Reply {
     pub answer: i64,
     pub fields: Fields,
@@ -40,7 +40,7 @@ pub struct Reply {
 }
 
 // What a call that changes no record shows.
-#[derive(Drop)]
+#[derive(Clone, Copy)]
 pub struct Shown {
     pub answer: i64,
     pub fields: Fields,

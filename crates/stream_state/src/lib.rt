@@ -11,7 +11,7 @@ use records::tables::{Tables, fresh_tables};
 pub mod fed;
 
 // The tables, and the number of the last line.
-#[derive(Drop)]
+#[derive(Clone, Copy)]
 pub struct State {
     pub tables: Tables,
     pub number: u64,

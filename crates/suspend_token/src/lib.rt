@@ -66,7 +66,7 @@ fn some_at(kind: u8, v: Thread, barred: bool, count: u16) -> bool
 // -- Suspending and resuming -------------------------------------------------------------------
 
 // What 1e and 1f come to: the answer, whether each thread of a process is changed, and the thread after it.
-#[derive(Drop)]
+#[derive(Clone, Copy)]
 pub struct Task {
     pub answer: i64,
     pub each: bool,
@@ -150,7 +150,7 @@ pub fn resume(kind: u8, name: u8, v: Thread, q: Process, j: Job, barred: bool) -
 // -- Tokens ----------------------------------------------------------------------------------
 
 // What 0d and 0e come to: the same, and the token after it.
-#[derive(Drop)]
+#[derive(Clone, Copy)]
 pub struct Token {
     pub task: Task,
     pub token: SuspendToken,

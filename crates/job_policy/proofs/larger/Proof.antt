@@ -13,9 +13,9 @@ larger_spec =
     (tie.spec
     (λ c.
     let f = c.before.ranges in
-    let t = simp (to_z-of_z {w = w64} f.a, to_z-of_z {w = w64} f.b) at c.if1.true in
+    let t = simp (to_z-of_z {w = w64} f.a, to_z-of_z {w = w64} f.b) at c.if-a-b.true in
     simp (to_z-of_z {w = w64} f.b) (search (branches, t)))
     (λ c.
     let f = c.before.ranges in
-    let t = simp (to_z-of_z {w = w64} f.a, to_z-of_z {w = w64} f.b) at c.if1.false in
+    let t = simp (to_z-of_z {w = w64} f.a, to_z-of_z {w = w64} f.b) at c.if-a-b.false in
     simp (to_z-of_z {w = w64} f.a) (search (branches, t))))

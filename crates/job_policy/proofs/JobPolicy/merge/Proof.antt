@@ -17,10 +17,10 @@ Merged p q u i =
     (length p.action ≡ 15) × ((length q.action ≡ 15) ×
     (u ≡ policy (zip_to merged_action i p.action q.action)))
 
-abbrev invariant_loop : tie.invariant-loop
+abbrev invariant_loop : tie.invariant-loop-i
 invariant_loop parent new₀ i₀ new i = Merged new₀ parent new i
 
-abbrev decreases_loop : tie.decreases-loop
+abbrev decreases_loop : tie.decreases-loop-i
 decreases_loop parent new₀ i₀ new i = 15 - i
 
 module _ (p q u : JobPolicy) (i : ℕ) (inv : Merged p q u i) where
@@ -34,13 +34,13 @@ module _ (p q u : JobPolicy) (i : ℕ) (inv : Merged p q u i) where
   unfolding merge
   all h = inv.1.1 ∙ ap policy (sym (zip_to_all merged_action p.action q.action i (omega arith)))
 
-loop_again : tie.Need-loop-preserved invariant_loop decreases_loop
+loop_again : tie.Need-loop-i-preserved invariant_loop decreases_loop
 loop_again c =
     let l = c.before.before.before in (
       search rules,
       (
         search rules,
-        next _ _ _ _ l.before.loop.invariant _ l.loop-test.true c.merged-action.ensures,
+        next _ _ _ _ c.loop-i.invariant _ c.loop-i-test.true c.merged_action-a.ensures,
       ),
     )
 
@@ -58,4 +58,4 @@ merge_spec =
     (λ c. search rules)
     (λ c. search rules)
     loop_again
-    (λ c. all _ _ _ _ c.before.loop.invariant c.loop-test.false))
+    (λ c. all _ _ _ _ c.before.loop-i.invariant c.loop-i-test.false))

@@ -18,6 +18,6 @@ generate_new_spec =
     let a = c.before.before.before.args in
     let old : SFits w64 a.self.amount = search rules in
     let new : SFits w64 a.policy.slack = search rules in
-    let got : SFits w64 c.larger.result = record { sfits = c.larger.type-inv } in
+    let got : SFits w64 c.larger.result = record { sfits = c.larger.type_inv } in
     ap (λ (z : ℤ). slack_of z a.policy.mode)
     (to_z-of_z {w = w64} got ∙ (simp (to_z-of_z {w = w64} old, to_z-of_z {w = w64} new) at c.larger.ensures))))
