@@ -1,5 +1,5 @@
 -- What is done with the recorder's part of a stream.
-use Rattle.std.specs.Prelude.{ℕ, ◌-◌, ◌≡◌, Bool, not, List, take, drop}
+use Rattle.std.specs.Prelude.{ℕ, ◌-◌, ◌≡◌, not, List, take, drop}
 use Rattle.stream_state.specs.Recorder.{Part}
 use Rattle.buffer.specs.declared.Progress.{Progress}
 

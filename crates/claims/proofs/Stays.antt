@@ -8,7 +8,7 @@ use lib.IntN.{ℤ}
 use Rattle.laws.specs.Choice.{◌=?◌}
 use Rattle.laws.proofs.Cases.{by, no_both, ite_on, and_left, and_right, and_true}
 use Rattle.record_job.specs.declared.Job.{Job}
-use Rattle.record_job.specs.Job.{killed, terminated, is_parent, child_of}
+use Rattle.record_job.specs.Job.{killed, is_parent, child_of}
 use Rattle.record_process.specs.declared.Status.TheVariants.{Exited}
 use Rattle.record_process.specs.declared.Process.{Process}
 use Rattle.record_process.specs.Process.{is_exited, code_of, with_status, ended, member_of}

@@ -1,6 +1,6 @@
 -- Rows beside `Separation`: that its premise is needed, and what two trips below one killed job
 -- see. A row is a list of calls from a fresh root, each with what it shows.
-use Rattle.std.specs.Prelude.{◌≡◌, true, false, List, [], ◌∷◌, pos}
+use Rattle.std.specs.Prelude.{◌≡◌, true, false, List, [], ◌∷◌}
 use Rattle.laws.specs.Choice.{minus}
 use Rattle.records.specs.Tables.{fresh_tables}
 use Rattle.model.specs.Step.{Call, cmd01, cmd03, cmd06, cmd07, cmd08, cmd09, cmd0c, cmd1b}

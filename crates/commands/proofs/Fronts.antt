@@ -1,13 +1,11 @@
 -- What stands at the front of some bytes: the code's tests, and the case of the definition.
 -- Assumes nothing.
 use Prim.Native.Nat.{ℕ, ◌≤◌, ◌<◌}
-use mathlib.Core.Path.{◌≡◌, refl, sym, ◌∙◌, ap}
-use mathlib.Core.Bool.{Bool, true, false}
+use mathlib.Core.Path.{◌≡◌, sym, ◌∙◌, ap}
 use mathlib.Core.List.{List}
 use borrow.Author.Tests.{eq-eqb, ne_eqb, lt-ltb, le-ltb}
 use lib.ListN.{length}
 use Rattle.laws.specs.Choice.{if◌then◌else◌, ◌and◌}
-use Rattle.commands.specs.declared.Next.{Next}
 use Rattle.commands.specs.declared.Next.TheVariants.{Wait, Stop, Whole}
 use Rattle.commands.specs.Commands.{byte, size_of, next_of}
 

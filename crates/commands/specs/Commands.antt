@@ -1,6 +1,6 @@
 -- The commands 01 to 1f as bytes: one command byte, then operands, little-endian (document 01,
 -- Commands of the recorder). A byte past the end is 0.
-use Rattle.std.specs.Prelude.{ℕ, ◌+◌, ◌-◌, ◌*◌, Bool, List, [], ◌∷◌, ℤ, pos, negsuc, length, get_or}
+use Rattle.std.specs.Prelude.{ℕ, ◌+◌, ◌-◌, ◌*◌, List, [], ◌∷◌, ℤ, pos, negsuc, length, get_or}
 use Rattle.laws.specs.Choice.{◌<?◌, ◌=?◌, ◌and◌, if◌then◌else◌}
 use Rattle.job_policy.specs.declared.BasicPolicy.{BasicPolicy}
 use Rattle.commands.specs.declared.Next.{Next}

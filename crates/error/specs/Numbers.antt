@@ -1,5 +1,5 @@
 -- The numbers of error.rs that document 01 names, and the port's own, as definitions write them.
-use Rattle.std.specs.Prelude.{ℤ, pos}
+use Rattle.std.specs.Prelude.{ℤ}
 use Rattle.laws.specs.Choice.{minus}
 
 abbrev pub INVALID_ARGS : ℤ

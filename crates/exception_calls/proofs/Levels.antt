@@ -1,11 +1,11 @@
 -- 12 and 13 by the level's number: a level outside 1 to 5 is refused first. Assumes nothing.
 use Prim.Native.Nat.{ℕ, ◌<◌}
 use native.Mathlib.Omega.{arith}
-use mathlib.Core.Path.{◌≡◌, refl, sym, ◌∙◌}
+use mathlib.Core.Path.{◌≡◌}
 use mathlib.Core.Bool.{true}
 use lib.IntN.{pos}
 use borrow.Author.Tests.{eqb-false, lt-ltb}
-use Rattle.laws.specs.Choice.{◌=?◌, ◌<?◌, ◌or◌}
+use Rattle.laws.specs.Choice.{◌=?◌, ◌or◌}
 use Rattle.laws.proofs.Cases.{by}
 use Rattle.records.specs.declared.tables.Tables.{Tables}
 use Rattle.reply.specs.declared.Reply.{Reply}

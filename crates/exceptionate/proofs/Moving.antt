@@ -17,7 +17,7 @@ use Rattle.record_process.specs.Process.{found_process_in}
 use Rattle.record_thread.specs.declared.Thread.{Thread}
 use Rattle.record_thread.specs.Thread.{found_thread_in, with_level2}
 use Rattle.records.specs.declared.tables.Tables.{Tables}
-use Rattle.records.specs.Tables.{job_at, process_at, thread_at, put_job, put_process, put_thread}
+use Rattle.records.specs.Tables.{job_at, process_at, thread_at, put_job, put_process}
 use Rattle.records.specs.Tables.{found_job, found_process, found_thread}
 use Rattle.records.proofs.Kept.{job_kept, process_kept, thread_kept}
 use Rattle.reply.specs.declared.Reply.{Reply}

@@ -3,18 +3,14 @@ use Prim.Native.Nat.{ℕ, zero, suc}
 use native.Mathlib.Decide.{ℕ_discrete}
 use mathlib.Core.Path.{◌≡◌, refl, sym, ap, ◌∙◌}
 use mathlib.Core.Logic.{◌≢◌}
-use mathlib.Core.Bool.{Bool, true, false, not}
-use lib.ListN.{get_or}
+use mathlib.Core.Bool.{Bool, true, false}
 use lib.Seq.{set-set}
-use Rattle.laws.specs.Choice.{◌and◌}
-use Rattle.laws.specs.Lists.{any}
 use Rattle.laws.proofs.Cases.{no_both, by, and_left, and_right}
 use borrow.Author.Tests.{not-true}
 use Rattle.record_job.specs.declared.Parent.{Parent}
 use Rattle.record_job.specs.declared.Parent.TheVariants.{Orphan, ChildOf}
 use Rattle.record_job.specs.declared.Job.{Job}
-use Rattle.record_job.specs.Job.{no_job, killed, terminated, child_of}
-use Rattle.record_process.specs.Process.{member_of}
+use Rattle.record_job.specs.Job.{killed, terminated, child_of}
 use Rattle.lists.specs.Alone.{below_killed, kills_alone}
 use Rattle.records.specs.declared.tables.Tables.{Tables}
 use Rattle.records.specs.Tables.{job_at, process_at, put_job, with_jobs}

@@ -22,7 +22,6 @@ use Rattle.laws.proofs.Flow.{stops, passes, yes, no}
 use Rattle.job_policy.specs.declared.BasicPolicy.{BasicPolicy}
 use Rattle.job_policy.specs.declared.JobPolicy.{JobPolicy}
 use Rattle.records.specs.declared.tables.Tables.{Tables}
-use Rattle.reply.specs.declared.Reply.{Reply}
 use Rattle.reply.specs.Reply.{answered}
 use Rattle.records.specs.Tables.{own_at, inherited_at}
 use Rattle.model.specs.JobCalls.{set_policy_basic}

@@ -6,10 +6,10 @@
 --     stores                          all of them, or the job is stored
 --     shows_info                      1b
 -- Assumes nothing.
-use Prim.Native.Nat.{ℕ, ◌%◌, ◌<◌, ◌≤◌}
+use Prim.Native.Nat.{ℕ, ◌<◌}
 use native.Mathlib.Nat.{mod-eq_of_lt}
-use mathlib.Core.Path.{◌≡◌, refl, ap, sym, ◌∙◌}
-use mathlib.Core.Bool.{Bool, true, false}
+use mathlib.Core.Path.{◌≡◌, ap, sym, ◌∙◌}
+use mathlib.Core.Bool.{true, false}
 use lib.IntN.{ℤ, pos}
 use Rattle.laws.specs.Choice.{if◌then◌else◌}
 use Rattle.error.specs.Numbers.{ALREADY_EXISTS}
@@ -23,7 +23,7 @@ use Rattle.records.specs.Tables.{job_at, own_at, inherited_at, put_job, put_own}
 use Rattle.records.proofs.Kept.{job_kept, own_kept, inherited_kept, job_at_lem}
 use Rattle.records.proofs.Kept.{job_looked_up_at, new_job_lem}
 use Rattle.reply.specs.declared.Fields.{Fields}
-use Rattle.reply.specs.Reply.{answered, reply_with, showing, shown}
+use Rattle.reply.specs.Reply.{answered, showing, shown}
 use Rattle.reply.proofs.Showing.{shows_answer}
 use Rattle.model.specs.Job.{kill_job}
 use Rattle.model.specs.JobCalls.{with_child, job_info}

@@ -2,7 +2,7 @@
 -- answered at the end. `one-pass` of proofs/Fold.antt takes this to `setPolicyBasic` of model.
 use Rattle.std.specs.Prelude.{ℕ, Bool, true, false, not, List, [], ◌∷◌}
 use Rattle.laws.specs.Choice.{◌≤?◌, ◌<?◌, ◌=?◌, if◌then◌else◌}
-use Rattle.laws.specs.Guarded.{Guarded, ok, ◌>>◌, ◌>>=◌, refuse◌when◌, deny◌when◌}
+use Rattle.laws.specs.Guarded.{ok, ◌>>◌, ◌>>=◌, refuse◌when◌, deny◌when◌}
 use Rattle.error.specs.Numbers.{BAD_STATE}
 use Rattle.job_policy.specs.declared.JobPolicy.{JobPolicy}
 use Rattle.job_policy.specs.declared.BasicPolicy.{BasicPolicy}

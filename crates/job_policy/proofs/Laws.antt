@@ -8,10 +8,7 @@ use native.Mathlib.Decide.{dec_lt, ℕ_discrete}
 use borrow.Author.Tests.{le-leb, lt-leb, eq-eqb, ne_eqb}
 use lib.ListN.{length, get_or, set, get_or-eq_default}
 use lib.Seq.{set-set}
-use lib.Dec.{leb, eqb}
-use Rattle.laws.specs.Choice.{◌≤?◌, ◌=?◌, if◌then◌else◌}
 use Rattle.laws.proofs.Flow.{first, second}
-use Rattle.laws.proofs.Cases.{by, no_both}
 use Rattle.laws.proofs.Loops.{zip_at}
 use Rattle.job_policy.specs.declared.JobPolicy.{JobPolicy}
 use Rattle.job_policy.specs.declared.BasicPolicy.{BasicPolicy}

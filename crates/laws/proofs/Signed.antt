@@ -1,7 +1,6 @@
 -- Signed numbers as the code holds them: 64 bits. Assumes nothing.
 use mathlib.Core.Path.{◌≡◌, refl}
-use mathlib.Core.Bool.{Bool}
-use Prim.Native.Nat.{ℕ, suc, ◌-◌, ◌^◌}
+use Prim.Native.Nat.{suc, ◌-◌, ◌^◌}
 use native.Mathlib.Omega.{arith}
 use borrow.Author.Tests.{ne_eqb}
 use lib.Dec.{eqb}

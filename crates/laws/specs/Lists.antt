@@ -1,6 +1,6 @@
 -- Tests and changes of whole tables, which the definitions hold as lists.
 -- (`get_or`, `set` and `replicate` are lib.ListN's, `map` is mathlib.Core.List's.)
-use Rattle.std.specs.Prelude.{Bool, true, false, List, [], ◌∷◌}
+use Rattle.std.specs.Prelude.{Bool, false, List, [], ◌∷◌}
 use Rattle.laws.specs.Choice.{◌or◌}
 
 -- does some element pass the test?

@@ -1,5 +1,5 @@
 -- A job whose kill stays with its own record: it lists nothing, and no killed job lists it.
-use Rattle.std.specs.Prelude.{ℕ, Bool, true, false, not, List, get_or}
+use Rattle.std.specs.Prelude.{ℕ, Bool, false, not, List, get_or}
 use Rattle.laws.specs.Choice.{◌and◌}
 use Rattle.laws.specs.Lists.{any}
 use Rattle.record_job.specs.declared.Parent.{Parent}

@@ -4,13 +4,13 @@
 --     job_made, .., past_told      what a callee said of a new name, and of a table's size
 -- Assumes nothing.
 use Prim.Native.Nat.{ℕ, ◌≤◌, ◌<◌}
-use mathlib.Core.Path.{◌≡◌, refl, ap, sym, ◌∙◌}
+use mathlib.Core.Path.{◌≡◌, ap, sym, ◌∙◌}
 use mathlib.Core.Bool.{Bool, true, false}
 use native.Mathlib.Omega.{arith}
 use borrow.Author.Tests.{le-leb, lt-leb}
 use lib.Dec.{leb}
 use lib.IntN.{ℤ, pos}
-use Rattle.laws.specs.Guarded.{Guarded, Result, found, missing, guard, ok, ◌>>◌, ◌>>=◌, settle}
+use Rattle.laws.specs.Guarded.{Guarded, Result, found, missing, guard, ok, ◌>>◌, ◌>>=◌}
 use Rattle.laws.proofs.Flow.{stops, finds, fails, flow}
 use Rattle.laws.proofs.Flow as laws
 use Rattle.record_exception.specs.declared.Exception.{Exception}

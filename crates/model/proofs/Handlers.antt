@@ -1,7 +1,6 @@
 -- Which handlers are left after a closing: levels 2, 3, 1 and 4, never a job's debugger.
 -- Assumes nothing.
 use Prim.Native.Nat.{ℕ, zero, suc}
-use mathlib.Core.Path.{◌≡◌}
 use mathlib.Core.Bool.{Bool}
 use Rattle.laws.specs.Choice.{◌=?◌}
 use Rattle.laws.proofs.Cases.{ite_on, if_on}

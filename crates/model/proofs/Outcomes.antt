@@ -2,7 +2,7 @@
 -- One walk over the 31 definitions, for the claims `Refusals` and `Answers` both. Assumes nothing.
 use Prim.Native.Nat.{ℕ}
 use mathlib.Core.Path.{◌≡◌, refl}
-use mathlib.Core.Bool.{Bool, true, false}
+use mathlib.Core.Bool.{Bool, false}
 use mathlib.Core.List.{List}
 use lib.IntN.{ℤ, pos}
 use Rattle.laws.specs.Choice.{◌or◌, if◌then◌else◌}

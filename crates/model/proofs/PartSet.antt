@@ -2,14 +2,14 @@
 -- set, and leaves just the entries before that one set. Assumes nothing.
 use Prim.Native.Nat.{ℕ}
 use mathlib.Core.Path.{◌≡◌, refl, ap}
-use mathlib.Core.Bool.{Bool, true, false}
+use mathlib.Core.Bool.{true, false}
 use mathlib.Core.List.{List, [], ◌∷◌, ◌++◌}
 use Rattle.laws.specs.Choice.{◌=?◌, ◌or◌}
 use Rattle.laws.specs.Lists.{any}
 use Rattle.laws.proofs.Cases.{no_both, ite_on}
 use Rattle.job_policy.specs.declared.JobPolicy.{JobPolicy}
 use Rattle.job_policy.specs.declared.BasicPolicy.{BasicPolicy}
-use Rattle.job_policy.specs.Policy.{get_action, apply}
+use Rattle.job_policy.specs.Policy.{apply}
 use Rattle.records.specs.declared.tables.Tables.{Tables}
 use Rattle.records.specs.Tables.{own_at, inherited_at, put_own}
 use Rattle.model.specs.JobPolicy.{Setting, set_each}

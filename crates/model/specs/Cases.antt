@@ -8,9 +8,9 @@ use Rattle.reply.specs.declared.Fields.TheVariants.{NoFields, OwnerField, JobFie
 use Rattle.reply.specs.declared.Fields.TheVariants.{ProcessFields, ThreadFields}
 use Rattle.records.specs.Tables.{fresh_tables}
 use Rattle.model.specs.Step.{Call, cmd01, cmd02, cmd03, cmd04, cmd05, cmd06, cmd07, cmd08}
-use Rattle.model.specs.Step.{cmd09, cmd0a, cmd0b, cmd0c, cmd0d, cmd0e, cmd0f, cmd11, cmd12}
-use Rattle.model.specs.Step.{cmd13, cmd14, cmd15, cmd16, cmd17, cmd18, cmd19, cmd1a, cmd1b}
-use Rattle.model.specs.Step.{cmd1c, cmd1d, cmd1e, cmd1f, Shown, answers}
+use Rattle.model.specs.Step.{cmd09, cmd0a, cmd0c, cmd0d, cmd0e, cmd0f, cmd12}
+use Rattle.model.specs.Step.{cmd13, cmd14, cmd15, cmd17, cmd19, cmd1a, cmd1b}
+use Rattle.model.specs.Step.{cmd1c, cmd1d, cmd1e, Shown, answers}
 
 -- ---- Lines ---------------------------------------------------------------------------------
 

@@ -15,7 +15,6 @@ use Rattle.record_exception.specs.Exception.{level_of, exception_at}
 use Rattle.record_job.specs.Job.{with_level4, with_level5}
 use Rattle.record_process.specs.Process.{KILL_CODE, with_level1, with_level3}
 use Rattle.record_thread.specs.declared.Waiting.TheVariants.{InException}
-use Rattle.record_thread.specs.declared.Thread.{Thread}
 use Rattle.record_thread.specs.Thread.{DYING, BLOCKED_EXCEPTION, waits, end_wait, with_level2}
 use Rattle.records.specs.declared.tables.Tables.{Tables}
 use Rattle.reply.specs.declared.Fields.TheVariants.{OwnerField}

@@ -1,6 +1,6 @@
 -- The calls on exceptions and their channels, with their refusals in document 01's order.
-use Rattle.std.specs.Prelude.{ℕ, Bool, true, false, not}
-use Rattle.laws.specs.Choice.{◌≤?◌, ◌<?◌, ◌=?◌, ◌or◌, if◌then◌else◌}
+use Rattle.std.specs.Prelude.{ℕ, Bool, not}
+use Rattle.laws.specs.Choice.{◌≤?◌, ◌<?◌, ◌=?◌, ◌or◌}
 use Rattle.laws.specs.Guarded.{ok, ◌>>◌, ◌>>=◌, refuse◌when◌, deny◌when◌}
 use Rattle.error.specs.Numbers.{INVALID_ARGS, BAD_STATE, ALREADY_BOUND, ACCESS_DENIED}
 use Rattle.record_exception.specs.declared.Level.TheVariants.{Bound, HungUp}

@@ -1,7 +1,7 @@
 -- Jobs and processes: lists, terminations upward, and killing, exiting and ending, which call one another. Follows
 -- job.rs and process.rs, with what their comments quote of Zircon, and document 01.
 use Rattle.std.specs.Prelude.{ℕ, zero, suc, ◌+◌, Bool, true, false, not, List, [], ◌∷◌, map, ℤ}
-use Rattle.laws.specs.Choice.{◌=?◌, ◌and◌, ◌or◌, if◌then◌else◌, ite}
+use Rattle.laws.specs.Choice.{◌=?◌, ◌and◌, if◌then◌else◌, ite}
 use Rattle.laws.specs.Lists.{any}
 use Rattle.record_job.specs.declared.Parent.{Parent}
 use Rattle.record_job.specs.declared.Parent.TheVariants.{Orphan, ChildOf}

@@ -1,5 +1,5 @@
 -- The calls on jobs and processes, with their refusals in document 01's order.
-use Rattle.std.specs.Prelude.{ℕ, Bool, true, false, not, List, ℤ, pos}
+use Rattle.std.specs.Prelude.{ℕ, not, List, ℤ, pos}
 use Rattle.std.specs.Int.Signed.{lt_z}
 use Rattle.laws.specs.Choice.{◌≤?◌, ◌<?◌, ◌=?◌}
 use Rattle.laws.specs.Guarded.{ok, ◌>>◌, ◌>>=◌, refuse◌when◌, deny◌when◌}
@@ -12,7 +12,6 @@ use Rattle.job_policy.specs.Slack.{generate_new}
 use Rattle.record_exception.specs.Channel.{is_bound}
 use Rattle.record_job.specs.declared.Job.{Job}
 use Rattle.record_job.specs.Job.{new_job, with_slack}
-use Rattle.record_process.specs.declared.Status.{Status}
 use Rattle.record_process.specs.declared.Status.TheVariants.{Running}
 use Rattle.record_process.specs.declared.Process.{Process}
 use Rattle.record_process.specs.Process.{KILL_CODE, new_process, is_init, is_exited, code_of}

@@ -1,10 +1,8 @@
 -- Policies of jobs and processes in the tables. Follows `set_policy_basic` of job.rs and
 -- `check_policy` of process.rs, with what their comments quote of Zircon.
-use Rattle.std.specs.Prelude.{ℕ, Bool, true, false, not, List, [], ◌∷◌, ℤ, pos}
+use Rattle.std.specs.Prelude.{ℕ, Bool, true, false, not, List, [], ◌∷◌, pos}
 use Rattle.laws.specs.Choice.{◌≤?◌, ◌=?◌, ◌or◌, if◌then◌else◌, ite}
-use Rattle.laws.specs.Guarded.{Result, found, missing}
-use Rattle.laws.specs.Lists.{any}
-use Rattle.error.specs.Numbers.{ALREADY_EXISTS, ACCESS_DENIED}
+use Rattle.error.specs.Numbers.{ALREADY_EXISTS}
 use Rattle.job_policy.specs.declared.JobPolicy.{JobPolicy}
 use Rattle.job_policy.specs.declared.BasicPolicy.{BasicPolicy}
 use Rattle.job_policy.specs.declared.ActionFound.{ActionFound}

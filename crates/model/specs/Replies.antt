@@ -1,6 +1,6 @@
 -- How the calls of this model answer: guards in document 01's order, and at the foot what an
 -- accepted call comes to. A lookup gives a made record, or the number that refuses the call.
-use Rattle.std.specs.Prelude.{ℕ, Bool, true, false, ℤ, pos}
+use Rattle.std.specs.Prelude.{ℕ, pos}
 use Rattle.laws.specs.Guarded.{Result, found, missing, Guarded, ok, settle}
 use Rattle.record_exception.specs.declared.Exception.{Exception}
 use Rattle.record_exception.specs.declared.Level.{Level}

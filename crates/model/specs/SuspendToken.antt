@@ -1,11 +1,11 @@
 -- Suspending and resuming a task, and tokens. Follows suspend_token.rs and `suspend` and `resume`
 -- of thread.rs and process.rs. A thread is concerned if it is the one named (kind 2), or listed by
 -- the process named (kind 1).
-use Rattle.std.specs.Prelude.{ℕ, Bool, true, false, map}
+use Rattle.std.specs.Prelude.{ℕ, Bool, map}
 use Rattle.laws.specs.Choice.{◌=?◌, ◌and◌, if◌then◌else◌}
 use Rattle.laws.specs.Lists.{any}
 use Rattle.record_thread.specs.declared.Thread.{Thread}
-use Rattle.record_thread.specs.Thread.{suspend, resume, thread_of, FULL}
+use Rattle.record_thread.specs.Thread.{suspend, resume, thread_of}
 use Rattle.record_token.specs.SuspendToken.{new_token, drop}
 use Rattle.records.specs.declared.tables.Tables.{Tables}
 use Rattle.records.specs.Tables.{thread_at, token_at, put_thread, put_token, with_threads}

@@ -1,6 +1,6 @@
 -- The calls on threads, their plain waits and suspend tokens, with their refusals in document 01's
 -- order.
-use Rattle.std.specs.Prelude.{ℕ, ◌%◌, ◌/◌, Bool, true, false, not, ℤ, pos}
+use Rattle.std.specs.Prelude.{ℕ, ◌%◌, ◌/◌, Bool, not, ℤ, pos}
 use Rattle.laws.specs.Choice.{◌≤?◌, ◌<?◌, ◌=?◌, ◌and◌, ◌or◌, if◌then◌else◌}
 use Rattle.laws.specs.Guarded.{ok, ◌>>◌, ◌>>=◌, refuse◌when◌, deny◌when◌}
 use Rattle.error.specs.Numbers.{BAD_STATE, TIMED_OUT, SHOULD_WAIT, CANCELED, STOP}

@@ -22,7 +22,7 @@ use Rattle.records.specs.Tables.{own_at, inherited_at, process_at, fixed_at, put
 use Rattle.records.proofs.Kept.{process_kept, fixed_kept, process_at_lem}
 use Rattle.records.proofs.Kept.{job_looked_up_at, process_looked_up_at, new_process_lem}
 use Rattle.reply.specs.declared.Shown.{Shown}
-use Rattle.reply.specs.Reply.{answered, reply, showing, shown_fields}
+use Rattle.reply.specs.Reply.{answered, showing, shown_fields}
 use Rattle.reply.proofs.Showing.{shows_answer, shows_fields}
 use Rattle.model.specs.Job.{exit_process}
 use Rattle.model.specs.JobCalls.{with_new_process, process_info}

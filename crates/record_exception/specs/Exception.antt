@@ -1,5 +1,5 @@
 -- An exception that a handler holds. Follows exception.rs; its iterators are a place here.
-use Rattle.std.specs.Prelude.{ℕ, Bool, true, false}
+use Rattle.std.specs.Prelude.{ℕ, Bool, false}
 use Rattle.record_exception.specs.declared.Place.{Place}
 use Rattle.record_exception.specs.declared.Place.TheVariants.{Debugger, OwnThread}
 use Rattle.record_exception.specs.declared.Place.TheVariants.{OwnProcess, SecondChance}

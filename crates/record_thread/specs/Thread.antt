@@ -3,7 +3,6 @@ use Rattle.std.specs.Prelude.{ℕ, ◌+◌, ◌-◌, Bool, true, false, not}
 use Rattle.laws.specs.Choice.{◌=?◌, ◌and◌, ◌or◌, if◌then◌else◌}
 use Rattle.record_exception.specs.declared.Level.{Level}
 use Rattle.record_exception.specs.declared.Level.TheVariants.{Unbound, Shut}
-use Rattle.record_exception.specs.declared.Exception.{Exception}
 use Rattle.record_thread.specs.declared.Waiting.{Waiting}
 use Rattle.record_thread.specs.declared.Waiting.TheVariants.{NotWaiting, InWait}
 use Rattle.record_thread.specs.declared.Waiting.TheVariants.{InException}

@@ -1,5 +1,5 @@
 -- The record of a suspend token. Follows suspend_token.rs.
-use Rattle.std.specs.Prelude.{ℕ, Bool, true, false}
+use Rattle.std.specs.Prelude.{ℕ, true, false}
 use Rattle.laws.specs.Choice.{if◌then◌else◌}
 use Rattle.record_token.specs.declared.SuspendToken.{SuspendToken}
 use Rattle.record_token.specs.declared.FoundToken.{FoundToken}

@@ -2,11 +2,11 @@
 -- the records were read from. Assumes nothing.
 use Prim.Native.Nat.{ℕ, ◌%◌}
 use native.Mathlib.Omega.{arith}
-use mathlib.Core.Path.{◌≡◌, refl, sym, ap, ◌∙◌}
-use mathlib.Core.Bool.{Bool, true, false}
+use mathlib.Core.Path.{◌≡◌, refl, ap, ◌∙◌}
+use mathlib.Core.Bool.{true, false}
 use mathlib.Core.List.{List}
 use lib.IntN.{pos}
-use lib.ListN.{length, get_or}
+use lib.ListN.{get_or}
 use lib.Seq.{get_or-set_same}
 use Rattle.laws.specs.Choice.{if◌then◌else◌, ◌=?◌, ◌and◌, ◌or◌}
 use Rattle.laws.specs.Lists.{any}
@@ -17,7 +17,6 @@ use Rattle.record_job.specs.declared.Job.{Job}
 use Rattle.record_process.specs.declared.Process.{Process}
 use Rattle.record_process.specs.Process.{no_process, ended}
 use Rattle.record_thread.specs.declared.Thread.{Thread}
-use Rattle.record_thread.specs.Thread.{FULL}
 use Rattle.record_token.specs.declared.SuspendToken.{SuspendToken}
 use Rattle.thread_lists.specs.declared.Changed.{Changed}
 use Rattle.thread_lists.specs.Each.{each_unless, has_count}

@@ -4,7 +4,7 @@
 --     performed the call of a command's bytes, by the command that was read from them
 use Prim.Native.Nat.{ℕ, ◌+◌, ◌-◌, ◌≤◌, ◌<◌}
 use native.Mathlib.Omega.{arith}
-use mathlib.Core.Path.{◌≡◌, refl, sym, ap, ◌∙◌}
+use mathlib.Core.Path.{◌≡◌, sym, ap, ◌∙◌}
 use mathlib.Core.List.{List}
 use lib.IntN.{ℤ}
 use lib.ListN.{length, take, drop}
@@ -13,12 +13,11 @@ use Rattle.records.specs.declared.tables.Tables.{Tables}
 use Rattle.records.specs.Tables.{Sized}
 use Rattle.reply.specs.declared.Fields.{Fields}
 use Rattle.reply.specs.declared.Reply.{Reply}
-use Rattle.reply.specs.Reply.{reply_with}
 use Rattle.commands.specs.declared.Next.{Next}
 use Rattle.commands.specs.declared.Next.TheVariants.{Whole}
 use Rattle.commands.specs.Commands.{next_of, fifteen_at}
 use Rattle.calls.specs.declared.Command.{Command}
-use Rattle.calls.specs.Calls.{Called, call_at, call_in, perform}
+use Rattle.calls.specs.Calls.{call_at, call_in, perform}
 use Rattle.calls.specs.Groups.{call_of}
 use Rattle.calls.proofs.Whole.{call_in_lem}
 use Rattle.lines.specs.Line.{line_of, Put, within}

@@ -2,7 +2,7 @@
 -- record, writing past it nothing.
 use Rattle.std.specs.Prelude.{ℕ, ◌≡◌, List, get_or, set, replicate, length}
 use Rattle.laws.specs.Choice.{if◌then◌else◌}
-use Rattle.job_policy.specs.Policy.{no_policy, merge}
+use Rattle.job_policy.specs.Policy.{no_policy}
 use Rattle.job_policy.specs.declared.JobPolicy.{JobPolicy}
 use Rattle.record_job.specs.Job.{no_job, root_job}
 use Rattle.record_job.specs.declared.Job.{Job}

@@ -7,7 +7,7 @@
 --     at_the_end     what `close` writes is the transcript of what is left, where no whole command is
 --     any_parts_lem      so it is of any sequence of reads and calls
 -- Assumes nothing.
-use Prim.Native.Nat.{ℕ, zero, suc, ◌+◌, ◌-◌, ◌≤◌, ◌<◌}
+use Prim.Native.Nat.{ℕ, zero, suc, ◌+◌, ◌-◌, ◌<◌}
 use native.Mathlib.Omega.{arith}
 use mathlib.Core.Path.{◌≡◌, refl, sym, ◌∙◌, ap}
 use mathlib.Core.Logic.{◌⊎◌, inl, inr}
@@ -15,7 +15,7 @@ use mathlib.Core.Bool.{Bool, true, false}
 use mathlib.Core.List.{List, [], ◌∷◌, ◌++◌, append-nil, append_assoc}
 use borrow.Author.Tests.{ltb-true}
 use lib.Dec.{ltb}
-use lib.ListN.{length, take, drop, length-append, length-drop}
+use lib.ListN.{length, drop, length-append}
 use lib.Seq.{take-append-le, drop-append-le, drop-drop}
 use Rattle.laws.specs.Choice.{if◌then◌else◌}
 use Rattle.commands.specs.declared.Next.{Next}
@@ -25,11 +25,10 @@ use Rattle.commands.proofs.Stays.{whole_bounds, left_less, front_stays}
 use Rattle.calls.specs.Calls.{call_in, perform}
 use Rattle.stream_state.specs.declared.State.{State}
 use Rattle.stream_state.specs.State.{fresh_state, stop_at, closing}
-use Rattle.stream_state.specs.Recorder.{reply_to, after, line, line_for}
-use Rattle.stream_state.specs.Recorder.{on_next, Part, part, ahead, fed_step, fed_within, fed}
-use Rattle.stream.specs.Stream.{transcript_step, transcript, Event, read, call, bytes_of}
+use Rattle.stream_state.specs.Recorder.{reply_to, after, line}
+use Rattle.stream_state.specs.Recorder.{on_next, Part, part, ahead, fed_within, fed}
+use Rattle.stream.specs.Stream.{transcript, Event, read, call, bytes_of}
 use Rattle.stream.specs.Stream.{progress, Drained, Stream}
-use Rattle.stream_state.proofs.Parts.{fed_is}
 use Rattle.stream.proofs.Transcript.{transcript_is}
 use Rattle.stream.proofs.Answered.{as_answered_lem}
 

@@ -3,19 +3,18 @@
 --     full, waits, stops       the ways out
 --     goes                     a command
 -- Assumes nothing.
-use Prim.Native.Nat.{ℕ, zero, suc, ◌+◌, ◌-◌, ◌≤◌, ◌<◌}
+use Prim.Native.Nat.{ℕ, ◌+◌, ◌-◌, ◌≤◌, ◌<◌}
 use native.Mathlib.Nat.{zero-add, add-zero, add_assoc}
 use native.Mathlib.Omega.{arith}
 use mathlib.Core.Path.{◌≡◌, refl, sym, ◌∙◌, ap}
 use mathlib.Core.Bool.{true, false}
-use mathlib.Core.List.{List, [], ◌∷◌, ◌++◌, append-nil, append_assoc}
+use mathlib.Core.List.{List, [], ◌++◌, append-nil, append_assoc}
 use borrow.Author.Tests.{lt-ltb, le-ltb}
 use lib.ListN.{length, take, drop, length-append, length-drop}
 use lib.Seq.{take_all, length-take-le, drop-drop}
 use lib.IntN.{ℤ}
 use Rattle.laws.specs.Choice.{if◌then◌else◌}
 use Rattle.job_policy.specs.declared.JobPolicy.{JobPolicy}
-use Rattle.records.specs.declared.tables.Tables.{Tables}
 use Rattle.reply.specs.declared.Fields.{Fields}
 use Rattle.reply.specs.declared.Reply.{Reply}
 use Rattle.commands.specs.declared.Next.{Next}
@@ -27,8 +26,8 @@ use Rattle.lines.specs.Line.{line_of, Put}
 use Rattle.stream_state.specs.declared.State.{State}
 use Rattle.stream_state.specs.declared.fed.Fed.{Fed}
 use Rattle.stream_state.specs.State.{next_number, state_of, stop_at}
-use Rattle.stream_state.specs.Recorder.{reply_to, after, line_for, line}
-use Rattle.stream_state.specs.Recorder.{Part, part, ahead, fed, fed_step, Feeds}
+use Rattle.stream_state.specs.Recorder.{reply_to, line_for}
+use Rattle.stream_state.specs.Recorder.{Part, part, ahead, fed, Feeds}
 use Rattle.stream_state.proofs.Parts.{fed_is}
 
 -- a line by other names for its number, its answer and its policy

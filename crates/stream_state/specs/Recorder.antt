@@ -1,7 +1,7 @@
 -- A part of a stream of commands and what is written for it (`fed`). The whole is in `stream`.
 -- Lines are numbered from 1. What is no command, and a command that the end of the input cuts, writes
 -- the number and `stop`, and nothing follows (document 01, Commands of the recorder).
-use Rattle.std.specs.Prelude.{ℕ, zero, suc, ◌+◌, ◌-◌, ◌≡◌, Bool, true, false, List, [], ◌∷◌, ◌++◌, length, take, drop}
+use Rattle.std.specs.Prelude.{ℕ, zero, suc, ◌+◌, ◌-◌, ◌≡◌, Bool, true, false, List, [], ◌++◌, length, take, drop}
 use Rattle.laws.specs.Choice.{◌<?◌, if◌then◌else◌}
 use Rattle.records.specs.declared.tables.Tables.{Tables}
 use Rattle.reply.specs.declared.Reply.{Reply}

@@ -11,7 +11,7 @@ use mathlib.Core.Bool.{Bool, true, false}
 use mathlib.Core.List.{List, map}
 use borrow.Author.Tests.{eqb-true, leb-true, leb-false}
 use lib.IntN.{ℤ, pos}
-use lib.ListN.{length, get_or, get_or-eq_default}
+use lib.ListN.{length, get_or-eq_default}
 use Rattle.laws.specs.Choice.{◌≤?◌, ◌=?◌, ◌and◌, if◌then◌else◌}
 use Rattle.laws.specs.Lists.{any}
 use Rattle.laws.proofs.Cases.{by, no_both}
@@ -24,11 +24,10 @@ use Rattle.record_token.specs.SuspendToken.{new_token, drop}
 use Rattle.thread_lists.specs.Each.{SUSPEND, RESUME, has_count, one_of, each_in, bars, each_unless}
 use Rattle.thread_lists.proofs.Unless.{changed_is}
 use Rattle.records.specs.declared.tables.Tables.{Tables}
-use Rattle.records.specs.Tables.{job_at, process_at, thread_at, token_at, put_thread, put_token, with_threads}
+use Rattle.records.specs.Tables.{thread_at, token_at}
 use Rattle.records.proofs.Kept.{job_looked_up_at, process_looked_up_at, thread_looked_up_at}
 use Rattle.records.proofs.Kept.{token_looked_up_at, new_token_lem}
 use Rattle.records.proofs.Kept.{thread_kept, token_kept, thread_at_lem, token_at_lem}
-use Rattle.reply.specs.declared.Reply.{Reply}
 use Rattle.reply.specs.Reply.{answered}
 use Rattle.records.specs.declared.owners.FoundTask.{FoundTask}
 use Rattle.records.specs.Owners.{tasks_of, found_task, made_job, made_process, made_thread}

@@ -3,7 +3,7 @@
 --     stays_unfinished, finishes   the same of 0c
 --     whole, whole_shown           a call over the tables, by way of the record that they have
 -- Assumes nothing.
-use Prim.Native.Nat.{ℕ, ◌%◌, ◌<◌}
+use Prim.Native.Nat.{ℕ, ◌<◌}
 use native.Mathlib.Nat.{mod-eq_of_lt}
 use mathlib.Core.Path.{◌≡◌, sym, ◌∙◌}
 use mathlib.Core.Bool.{true, false}

@@ -1,7 +1,6 @@
-use Prim.Native.Nat.{◌+◌, ◌-◌, ◌≤◌}
-use mathlib.Core.Path.{◌≡◌, refl, ◌∙◌}
+use Prim.Native.Nat.{◌-◌, ◌≤◌}
+use mathlib.Core.Path.{◌≡◌}
 use native.Mathlib.Omega.{arith}
-use lib.ListN.{length, length-set}
 use Rattle.buffer.proofs.Shifting.{Moved, moves_none, moves_one}
 use Rattle.buffer.proofs.shift.Statement.{statement}
 use Rattle.buffer.proofs.shift.Tie as tie

@@ -1,6 +1,6 @@
 -- Killing a job, exiting a process and ending a process. The measure is twice the count of what is
 -- live; one more where a process ends, since it kills its job at the same count.
-use Prim.Native.Nat.{ℕ, ◌+◌, ◌*◌, ◌-◌}
+use Prim.Native.Nat.{◌+◌, ◌*◌, ◌-◌}
 use Rattle.model.specs.Job.{remaining}
 use Rattle.cascade.proofs.Walks.{Children, Members}
 use Rattle.cascade.proofs.+end_process_exit_process_kill_job.Given as goal

@@ -1,5 +1,5 @@
 use Rattle.laws.specs.Choice.{if◌then◌else◌}
-use Rattle.laws.proofs.Flow.{told, branches}
+use Rattle.laws.proofs.Flow.{told}
 use Rattle.cascade.specs.Ends.{ends_here}
 use borrow.Author.Rules.{rules}
 use borrow.Author.Tests.{le-leb, lt-leb}

@@ -1,5 +1,4 @@
 use mathlib.Core.Path.{ap}
-use mathlib.Core.List.{List}
 use Rattle.laws.specs.Choice.{if◌then◌else◌}
 use Rattle.thread_lists.specs.Each.{one_of, each_in}
 use Rattle.records.specs.Tables.{with_threads}

@@ -9,7 +9,7 @@ use Rattle.record_thread.specs.declared.Waiting.TheVariants.{InException}
 use Rattle.record_thread.specs.declared.Thread.{Thread}
 use Rattle.records.specs.declared.tables.Tables.{Tables}
 use Rattle.records.specs.Tables.{thread_at, put_thread}
-use Rattle.model.specs.Replies.{accept, process}
+use Rattle.model.specs.Replies.{accept}
 use Rattle.model.specs.ThreadCalls.{finish_thread_call}
 use Rattle.model.specs.ExceptionCalls.{bind_level, hang_up_level, raise_exception}
 use Rattle.model.specs.ExceptionCalls.{close_exception, set_state, set_strategy}

@@ -20,7 +20,7 @@ use Rattle.records.specs.declared.tables.Tables.{Tables}
 use Rattle.reply.specs.declared.Fields.TheVariants.{JobFields}
 use Rattle.reply.specs.Reply.{reply, reply_with}
 use Rattle.records.specs.Tables.{own_at, inherited_at}
-use Rattle.model.specs.Replies.{job, process}
+use Rattle.model.specs.Replies.{process}
 use Rattle.model.specs.JobCalls.{with_child, create_child, kill_job_call, set_policy_basic}
 use Rattle.model.specs.JobCalls.{set_policy_timer_slack, job_info, job_information}
 use Rattle.model.specs.JobCalls.{with_new_process, create_process, with_started, start_process}

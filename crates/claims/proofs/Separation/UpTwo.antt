@@ -7,7 +7,7 @@ use Rattle.laws.specs.Choice.{if◌then◌else◌, ite}
 use Rattle.laws.proofs.Cases.{by, ite_on, ite_two}
 use Rattle.record_job.specs.declared.Parent.{Parent}
 use Rattle.record_job.specs.declared.Parent.TheVariants.{Orphan, ChildOf}
-use Rattle.record_job.specs.Job.{killed, terminated}
+use Rattle.record_job.specs.Job.{terminated}
 use Rattle.record_process.specs.declared.Process.{Process}
 use Rattle.record_process.specs.Process.{ended}
 use Rattle.records.specs.declared.tables.Tables.{Tables}

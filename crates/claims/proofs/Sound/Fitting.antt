@@ -8,7 +8,7 @@ use borrow.Author.Tests.{eqb-true, eqb-false, ne_eqb}
 use Rattle.laws.specs.Choice.{◌=?◌, ◌and◌}
 use Rattle.laws.proofs.Cases.{by, no_both, if_on, and_false}
 use Rattle.record_job.specs.declared.Job.{Job}
-use Rattle.record_job.specs.Job.{killed, child_of}
+use Rattle.record_job.specs.Job.{child_of}
 use Rattle.record_process.specs.declared.Process.{Process}
 use Rattle.record_process.specs.Process.{is_exited, ended, member_of}
 use Rattle.record_thread.specs.declared.Thread.{Thread}

@@ -12,7 +12,7 @@ use Rattle.laws.specs.Choice.{◌=?◌}
 use Rattle.laws.proofs.Cases.{by, no_both, ite_on, and_true}
 use Rattle.record_job.specs.declared.Parent.{Parent}
 use Rattle.record_job.specs.declared.Parent.TheVariants.{ChildOf}
-use Rattle.record_job.specs.Job.{killed, is_parent, child_of}
+use Rattle.record_job.specs.Job.{is_parent, child_of}
 use Rattle.record_process.specs.Process.{KILL_CODE, is_exited, member_of}
 use Rattle.records.specs.declared.tables.Tables.{Tables}
 use Rattle.records.specs.Tables.{job_at, process_at}

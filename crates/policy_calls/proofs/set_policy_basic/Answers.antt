@@ -1,4 +1,4 @@
-use mathlib.Core.Path.{◌≡◌, sym, ap, ◌∙◌}
+use mathlib.Core.Path.{sym, ap, ◌∙◌}
 use Rattle.job.specs.Work.{finish_work}
 use Rattle.job.proofs.Fold.{one_pass, pass_next, pass_end}
 use Rattle.policy_calls.proofs.set_policy_basic.Goals as goal

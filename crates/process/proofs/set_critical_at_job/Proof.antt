@@ -1,4 +1,4 @@
-use Prim.Native.Nat.{ℕ, ◌%◌, ◌<◌}
+use Prim.Native.Nat.{◌%◌}
 use mathlib.Core.Path.{◌≡◌, ap, sym, ◌∙◌}
 use mathlib.Core.Bool.{true, false}
 use lib.IntN.{pos}
@@ -14,7 +14,6 @@ use Rattle.model.specs.Job.{at_or_above}
 use Rattle.model.specs.JobCalls.{set_critical_at_job}
 use Rattle.process.proofs.Moving.{moving, stays, stores}
 use borrow.Author.Rules.{rules}
-use borrow.Author.Tests.{not-true, not-false}
 use Rattle.process.proofs.set_critical_at_job.Statement.{statement}
 use Rattle.process.proofs.set_critical_at_job.Tie as tie
 

@@ -1,34 +1,30 @@
 -- `recorder::feed` meets its contract. The invariant: what is left to do from here, behind what is done, is the whole
 -- (proofs/Turning.antt). Each arm is one turn, by the law of what it stores (proofs/Arms.antt).
-use Prim.Native.Nat.{ℕ, ◌+◌, ◌-◌, ◌≤◌, ◌<◌, ◌%◌}
+use Prim.Native.Nat.{ℕ, ◌+◌, ◌-◌, ◌≤◌, ◌<◌}
 use native.Mathlib.Nat.{sub-zero}
 use native.Mathlib.Omega.{arith}
 use mathlib.Core.Path.{◌≡◌, refl, sym, ap, ◌∙◌}
-use mathlib.Core.Bool.{Bool, true, false}
 use mathlib.Core.List.{List}
 use lib.IntN.{ℤ}
-use lib.ListN.{length, take, drop, length-take, length-drop}
+use lib.ListN.{length, take, length-take, length-drop}
 use lib.Seq.{length-take-le}
 use borrow.Author.Rules.{rules}
 use borrow.Author.Tests.{eq-eqb, ne_eqb}
 use mir.Syntax.{w64}
-use mir.Val.{SFits}
 use mir.Facts.{to_z-of_z}
-use Rattle.laws.specs.Choice.{◌=?◌, ◌and◌, if◌then◌else◌}
+use Rattle.laws.specs.Choice.{◌and◌}
 use Rattle.laws.proofs.Loops.{length_mapped}
 use Rattle.laws.proofs.Flow.{told}
 use Rattle.job_policy.specs.declared.BasicPolicy.{BasicPolicy}
 use Rattle.job_policy.specs.declared.JobPolicy.{JobPolicy}
-use Rattle.record_process.specs.declared.Process.{Process}
-use Rattle.records.specs.declared.tables.Tables.{Tables}
 use Rattle.records.specs.Tables.{Sized, put_job, put_own, put_inherited, put_process, put_fixed, put_thread, put_token}
 use Rattle.reply.specs.declared.Fields.{Fields}
 use Rattle.reply.specs.declared.Reply.{Reply}
 use Rattle.reply.specs.Reply.{reply, answered, showing}
 use Rattle.commands.specs.Commands.{fifteen_at}
 use Rattle.calls.specs.declared.Command.{Command}
-use Rattle.calls.specs.Calls.{Called, no_call, called, perform, call_in}
-use Rattle.calls.specs.Groups.{call_of, task_of, task_name, job_call}
+use Rattle.calls.specs.Calls.{Called, no_call, perform}
+use Rattle.calls.specs.Groups.{call_of, job_call}
 use Rattle.calls.proofs.Whole.{IsCall, is_call, whole_called, call_in_lem}
 use Rattle.model.specs.Step.{step}
 use Rattle.job.specs.Job as jobs
@@ -36,9 +32,7 @@ use Rattle.process.specs.Process as processes
 use Rattle.thread.specs.Pair.{both_moved}
 use Rattle.lines.specs.Line.{line_of, within, Put}
 use Rattle.lines.proofs.Puts.{roomy}
-use Rattle.stream_state.specs.declared.State.{State}
-use Rattle.stream_state.specs.State.{next_number, state_of}
-use Rattle.stream_state.specs.Recorder.{fed, ahead}
+use Rattle.stream_state.specs.State.{state_of}
 use Rattle.stream_state.proofs.Feeding.{begins, full, waits, stops}
 use Rattle.recorder.proofs.Sizes.{job_sized, own_sized, inherited_sized, process_sized, fixed_sized}
 use Rattle.recorder.proofs.Sizes.{thread_sized, token_sized, jobs_sized, threads_sized}

@@ -1,5 +1,4 @@
 use mathlib.Core.Path.{◌≡◌}
-use lib.IntN.{pos}
 use Rattle.records.specs.declared.tables.Tables.{Tables}
 use Rattle.records.specs.Tables.{thread_at}
 use Rattle.thread.specs.declared.Move.{Move}

@@ -1,7 +1,6 @@
 use Prim.Native.Nat.{ℕ, suc, ◌+◌, ◌≤◌, ◌-◌}
 use native.Mathlib.Omega.{arith}
 use mathlib.Core.Path.{◌≡◌, refl, ◌∙◌}
-use borrow.Author.Tests.{not-true, not-false}
 use Rattle.laws.proofs.Flow.{told}
 use Rattle.model.specs.Job.{terminate_up, terminate_job}
 use Rattle.model.proofs.Upward.{up_out, up_orphan, up_stops, up_goes}
