@@ -11,7 +11,7 @@ use std::io;
 
 // -- The lists -----------------------------------------------------------------------------
 
-// The first n entries, lent. Proved by a walk, so it is thin.
+// The first n entries, lent.
 fn lent(t: Tables, job: u8, option: u8, n: usize, policies: [BasicPolicy; 20]) -> Reply
     requires { n ≤ 20 }
     ensures { result ≡ set_policy_basic t job option (take n policies) }
