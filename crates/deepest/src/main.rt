@@ -1,10 +1,13 @@
 // deepest: the deepest cascade, for its stack. Writes how many jobs it killed.
+#![tactic(auto)]
+
 use record_exception::{Exception, ExceptionType, Place};
 use record_job::Job;
 use record_process::{Process, Status};
 use record_thread::{Thread, ThreadState, Waiting};
 use records::reading::{job_at, thread_at};
 use records::tables::{Tables, fresh_tables};
+use std::io;
 
 // A running process of a job, critical to a job.
 fn critical(job: u8, bound: u8) -> Process {
@@ -45,7 +48,7 @@ fn chain() -> Tables {
 
 // Process 0 exits, and ends when its thread finishes. Then each end waits for the kill of a job, which waits for the
 // exit of a process, which waits for its end, up to the root.
-fn main() {
+fn main(rt: HostRuntime) -> io::Result<()> {
     let mut t = cascade::exit_process(chain(), 0, 7);
     let v = thread_at(t, 0);
     t = t.with_thread(0, v.finish());
@@ -57,5 +60,5 @@ fn main() {
             killed += 1;
         }
     }
-    io::print_decimal(libc::STDOUT_FILENO, killed);
+    print!(rt; "{killed}")
 }

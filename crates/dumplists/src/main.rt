@@ -1,15 +1,18 @@
 // dumplists: runs many command lists, each from a fresh root, and writes its lines, each record at its end and `end`,
 // as `reference --dump --lists` does. A list stands behind its length in 4 little-endian bytes, of at most 65,536.
+#![tactic(auto)]
+
 ghost use Rattle.std.specs.Prelude.{◌≤◌, length};
+ghost use Rattle.io.specs.Counts.{IsPrefixLen};
 
 use job_policy::{ActionFound, JobPolicy, TimerSlack};
-use libc::{STDERR_FILENO, STDIN_FILENO, STDOUT_FILENO};
 use record_exception::{Exception, Level};
 use record_job::{Job, Parent};
 use record_process::{Critical, Process, Status};
 use record_thread::{FoundException, Signals, Thread, ThreadState};
 use record_token::SuspendToken;
 use records::tables::Tables;
+use std::io::Read;
 use stream_state::State;
 
 // -- Texts ---------------------------------------------------------------------------------
@@ -358,24 +361,26 @@ struct Ran {
 
 // -- Output --------------------------------------------------------------------------------
 
-fn write_out(text: &[u8]) -> bool {
-    if io::write_all(STDOUT_FILENO, text) {
-        return true;
+fn write_out(rt: &(impl Print + Eprint), text: &[u8]) -> bool {
+    match rt.write_all(text) {
+        Ok(()) => true,
+        Err(error) => {
+            let _ = eprintln!(rt; "standard output: {error}");
+            false
+        }
     }
-    os::fail(b"standard output");
-    false
 }
 
 // Says why the program ends.
-fn refuse(why: &[u8]) -> bool {
-    io::write_all(STDERR_FILENO, why);
+fn refuse(rt: &impl Eprint, why: &str) -> bool {
+    let _ = eprintln!(rt; "dumplists: {why}");
     false
 }
 
 // -- A list --------------------------------------------------------------------------------
 
 // Writes the lines of a list.
-fn feed_list(state: State, list: &[u8], out: &mut [u8]) -> Ran
+fn feed_list(rt: &(impl Print + Eprint), state: State, list: &[u8], out: &mut [u8]) -> Ran
     ensures { result.left ≤ length list.now }
 {
     let mut s = state;
@@ -385,7 +390,7 @@ fn feed_list(state: State, list: &[u8], out: &mut [u8]) -> Ran
         let written = r.written;
         let consumed = r.consumed;
         s = r.state;
-        let is_written = write_out(&out[..written]);
+        let is_written = write_out(rt, &out[..written]);
         at += consumed;
         if !is_written || r.finished {
             return Ran {
@@ -410,37 +415,37 @@ fn feed_list(state: State, list: &[u8], out: &mut [u8]) -> Ran
 }
 
 // The end of a list: the line of a command that was cut.
-fn close(state: State, left: &[u8], out: &mut [u8]) -> bool {
+fn close(rt: &(impl Print + Eprint), state: State, left: &[u8], out: &mut [u8]) -> bool {
     if out.len() < lines::LINE {
         return false;
     }
     let n = stream_state::close(state, left, out);
-    write_out(&out[..n])
+    write_out(rt, &out[..n])
 }
 
 // Writes the records and `end`.
-fn write_tables(t: Tables, out: &mut [u8]) -> bool {
+fn write_tables(rt: &(impl Print + Eprint), t: Tables, out: &mut [u8]) -> bool {
     let n = put_tables(out, t);
     if out.len() < n {
         return false;
     }
-    write_out(&out[..n])
+    write_out(rt, &out[..n])
 }
 
 // Runs a list from a fresh root; whether all was written.
-fn run_list(list: &[u8], out: &mut [u8]) -> bool {
-    let r = feed_list(stream_state::fresh(), list, out);
+fn run_list(rt: &(impl Print + Eprint), list: &[u8], out: &mut [u8]) -> bool {
+    let r = feed_list(rt, stream_state::fresh(), list, out);
     let s = r.state;
     let left = r.left;
     if !r.going {
         return false;
     }
     let from = list.len() - left;
-    if !close(s, &list[from..], out) {
+    if !close(rt, s, &list[from..], out) {
         return false;
     }
     let t = s.tables;
-    write_tables(t, out)
+    write_tables(rt, t, out)
 }
 
 // -- Input ---------------------------------------------------------------------------------
@@ -453,39 +458,54 @@ fn length_of(head: &[u8; 4]) -> usize {
     wide(head[0]) | wide(head[1]) << 8 | wide(head[2]) << 16 | wide(head[3]) << 24
 }
 
+// Reads until the buffer is full, the input ends or a read fails, and says how many bytes came.
+fn read_full(input: &mut impl Read, buf: &mut [u8]) -> usize
+    ensures { IsPrefixLen result buf.new }
+{
+    let mut done: usize = 0;
+    while done < buf.len() {
+        match input.read(&mut buf[done..]) {
+            Ok(0) => return done,
+            Ok(n) => done += n,
+            Err(_) => return done,
+        }
+    }
+    done
+}
+
 // Reads a list and runs it; whether to go on.
-fn turn(buf: &mut [u8], out: &mut [u8]) -> bool {
+fn turn(rt: &(impl Print + Eprint), input: &mut impl Read, buf: &mut [u8], out: &mut [u8]) -> bool {
     let mut head = [0u8; 4];
-    let got = io::read_full(STDIN_FILENO, &mut head);
+    let got = read_full(input, &mut head);
     if got == 0 {
         return false;
     }
     if got < 4 {
-        return refuse(b"dumplists: the last list is cut short\n");
+        return refuse(rt, "the last list is cut short");
     }
     let n = length_of(&head);
     if buf.len() < n {
-        return refuse(b"dumplists: a list of more than 65536 bytes\n");
+        return refuse(rt, "a list of more than 65536 bytes");
     }
-    let list = io::read_full(STDIN_FILENO, &mut buf[..n]);
+    let list = read_full(input, &mut buf[..n]);
     if list < n {
-        return refuse(b"dumplists: the last list is cut short\n");
+        return refuse(rt, "the last list is cut short");
     }
-    run_list(&buf[..n], out)
+    run_list(rt, &buf[..n], out)
 }
 
-// A proved loop has to end: it counts down from a number that no run uses up.
-fn run(buf: &mut [u8], out: &mut [u8]) {
-    let mut going = true;
-    let mut turns = u64::MAX;
-    while turns > 0 && going {
-        going = turn(buf, out);
-        turns -= 1;
+// A proved loop has to end, and nothing says that the input does: no run takes so many turns.
+fn run(rt: &(impl Print + Eprint), input: &mut impl Read, buf: &mut [u8], out: &mut [u8]) {
+    for _ in 0..u64::MAX {
+        if !turn(rt, input, buf, out) {
+            return;
+        }
     }
 }
 
-fn main() {
-    let mut buf = io::large_buffer();
-    let mut out = io::large_buffer();
-    run(&mut buf, &mut out);
+fn main(rt: HostRuntime) {
+    let mut input = rt.stdin();
+    let mut buf = [0u8; 65536];
+    let mut out = [0u8; 65536];
+    run(&rt, &mut input, &mut buf, &mut out);
 }

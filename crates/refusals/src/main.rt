@@ -1,14 +1,19 @@
 // refusals: each entry point turned back at each row of document 01's table that it has, in its order. Writes the
 // command's number, in decimal, and the answer. Then policy lists that are lent, in `slices`.
+#![tactic(auto)]
+
 mod slices;
 
+use exception_calls::{create_channel, get_process_handle, handle_exception, hang_up};
 use job_policy::{BasicPolicy, JobPolicy, TimerSlackPolicy};
+use process_calls::set_critical_at_job;
 use record_thread::Thread;
 use records::tables::{Tables, fresh_tables};
 use reply::{Fields, Reply};
+use std::io;
 
-fn show(command: u64, answer: i64) {
-    let mut out = io::buffer();
+fn show(rt: &impl Print, command: u64, answer: i64) -> io::Result<()> {
+    let mut out = [0u8; 4096];
     let n = lines::put_line(
         &mut out,
         0,
@@ -17,7 +22,7 @@ fn show(command: u64, answer: i64) {
         Fields::NoFields,
         JobPolicy::none(),
     );
-    io::write_all(libc::STDOUT_FILENO, &out[..n]);
+    rt.write_all(&out[..n])
 }
 
 fn pair(condition: u8, action: u8) -> BasicPolicy {
@@ -60,7 +65,7 @@ fn tasks() -> Tables {
     t = process_calls::create_with_ext(t, 1, 1).tables;
     t = process_calls::create_with_ext(t, 1, 2).tables;
     t = process_calls::exit(t, 1, 7).tables;
-    t = process_calls::set_critical_at_job(t, 2, 0, 0).tables;
+    t = set_critical_at_job(t, 2, 0, 0).tables;
     t = thread_calls::create_with_ext(t, 0, 0).tables;
     t = thread_calls::create_with_ext(t, 0, 1).tables;
     t = thread_calls::create_with_ext(t, 2, 2).tables;
@@ -71,195 +76,199 @@ fn tasks() -> Tables {
     thread_calls::begin_wait(t, 4, 3).tables
 }
 
-fn jobs(t: Tables) {
-    show(0x01, job_calls::create_child(t, 32, 9).answer);
-    show(0x01, job_calls::create_child(t, 0, 32).answer);
-    show(0x01, job_calls::create_child(t, 9, 3).answer);
-    show(0x01, job_calls::create_child(t, 2, 3).answer);
-    show(0x01, job_calls::create_child(t, 2, 9).answer);
-    show(0x02, job_calls::kill(t, 32).answer);
-    show(0x02, job_calls::kill(t, 9).answer);
-    show(0x10, slack(t, 32, -1, 3).answer);
-    show(0x10, slack(t, 32, -1, 0).answer);
-    show(0x10, slack(t, 9, -1, 0).answer);
-    show(0x10, slack(t, 1, -1, 0).answer);
-    show(0x10, slack(t, 3, -1, 0).answer);
-    show(0x1b, job_calls::get_info(t, 32).answer);
-    show(0x1b, job_calls::get_info(t, 9).answer);
+fn jobs(rt: &impl Print, t: Tables) -> io::Result<()> {
+    show(rt, 0x01, job_calls::create_child(t, 32, 9).answer)?;
+    show(rt, 0x01, job_calls::create_child(t, 0, 32).answer)?;
+    show(rt, 0x01, job_calls::create_child(t, 9, 3).answer)?;
+    show(rt, 0x01, job_calls::create_child(t, 2, 3).answer)?;
+    show(rt, 0x01, job_calls::create_child(t, 2, 9).answer)?;
+    show(rt, 0x02, job_calls::kill(t, 32).answer)?;
+    show(rt, 0x02, job_calls::kill(t, 9).answer)?;
+    show(rt, 0x10, slack(t, 32, -1, 3).answer)?;
+    show(rt, 0x10, slack(t, 32, -1, 0).answer)?;
+    show(rt, 0x10, slack(t, 9, -1, 0).answer)?;
+    show(rt, 0x10, slack(t, 1, -1, 0).answer)?;
+    show(rt, 0x10, slack(t, 3, -1, 0).answer)?;
+    show(rt, 0x1b, job_calls::get_info(t, 32).answer)?;
+    show(rt, 0x1b, job_calls::get_info(t, 9).answer)?;
+    Ok(())
 }
 
-fn policies(t: Tables) {
-    show(0x0f, policy(t, 32, 2, 3, 1).answer);
-    show(0x0f, policy(t, 32, 0, 15, 1).answer);
-    show(0x0f, policy(t, 32, 0, 3, 5).answer);
-    show(0x0f, policy(t, 32, 0, 3, 1).answer);
-    show(0x0f, policy(t, 9, 0, 3, 1).answer);
-    show(0x0f, policy(t, 1, 0, 3, 1).answer);
-    show(0x0f, policy(t, 3, 0, 6, 1).answer);
-    show(0x11, process_calls::check_policy(t, 64, 15).answer);
-    show(0x11, process_calls::check_policy(t, 64, 4).answer);
-    show(0x11, process_calls::check_policy(t, 9, 4).answer);
-    show(0x11, process_calls::check_policy(t, 0, 6).answer);
-    show(0x11, process_calls::check_policy(t, 0, 4).answer);
+fn policies(rt: &impl Print, t: Tables) -> io::Result<()> {
+    show(rt, 0x0f, policy(t, 32, 2, 3, 1).answer)?;
+    show(rt, 0x0f, policy(t, 32, 0, 15, 1).answer)?;
+    show(rt, 0x0f, policy(t, 32, 0, 3, 5).answer)?;
+    show(rt, 0x0f, policy(t, 32, 0, 3, 1).answer)?;
+    show(rt, 0x0f, policy(t, 9, 0, 3, 1).answer)?;
+    show(rt, 0x0f, policy(t, 1, 0, 3, 1).answer)?;
+    show(rt, 0x0f, policy(t, 3, 0, 6, 1).answer)?;
+    show(rt, 0x11, process_calls::check_policy(t, 64, 15).answer)?;
+    show(rt, 0x11, process_calls::check_policy(t, 64, 4).answer)?;
+    show(rt, 0x11, process_calls::check_policy(t, 9, 4).answer)?;
+    show(rt, 0x11, process_calls::check_policy(t, 0, 6).answer)?;
+    show(rt, 0x11, process_calls::check_policy(t, 0, 4).answer)?;
+    Ok(())
 }
 
-fn processes(t: Tables) {
-    show(0x03, process_calls::create_with_ext(t, 32, 9).answer);
-    show(0x03, process_calls::create_with_ext(t, 0, 64).answer);
-    show(0x03, process_calls::create_with_ext(t, 9, 0).answer);
-    show(0x03, process_calls::create_with_ext(t, 2, 0).answer);
-    show(0x03, process_calls::create_with_ext(t, 2, 9).answer);
-    show(0x05, process_calls::exit(t, 64, 7).answer);
-    show(0x05, process_calls::exit(t, 9, 7).answer);
-    show(0x06, process_calls::kill(t, 64).answer);
-    show(0x06, process_calls::kill(t, 9).answer);
-    show(
-        0x07,
-        process_calls::set_critical_at_job(t, 64, 32, 2).answer,
-    );
-    show(0x07, process_calls::set_critical_at_job(t, 64, 0, 1).answer);
-    show(0x07, process_calls::set_critical_at_job(t, 9, 32, 1).answer);
-    show(0x07, process_calls::set_critical_at_job(t, 9, 0, 1).answer);
-    show(0x07, process_calls::set_critical_at_job(t, 2, 9, 1).answer);
-    show(0x07, process_calls::set_critical_at_job(t, 2, 3, 1).answer);
-    show(0x07, process_calls::set_critical_at_job(t, 0, 3, 1).answer);
-    show(0x1c, process_calls::get_info(t, 64).answer);
-    show(0x1c, process_calls::get_info(t, 9).answer);
+fn processes(rt: &impl Print, t: Tables) -> io::Result<()> {
+    show(rt, 0x03, process_calls::create_with_ext(t, 32, 9).answer)?;
+    show(rt, 0x03, process_calls::create_with_ext(t, 0, 64).answer)?;
+    show(rt, 0x03, process_calls::create_with_ext(t, 9, 0).answer)?;
+    show(rt, 0x03, process_calls::create_with_ext(t, 2, 0).answer)?;
+    show(rt, 0x03, process_calls::create_with_ext(t, 2, 9).answer)?;
+    show(rt, 0x05, process_calls::exit(t, 64, 7).answer)?;
+    show(rt, 0x05, process_calls::exit(t, 9, 7).answer)?;
+    show(rt, 0x06, process_calls::kill(t, 64).answer)?;
+    show(rt, 0x06, process_calls::kill(t, 9).answer)?;
+    show(rt, 0x07, set_critical_at_job(t, 64, 32, 2).answer)?;
+    show(rt, 0x07, set_critical_at_job(t, 64, 0, 1).answer)?;
+    show(rt, 0x07, set_critical_at_job(t, 9, 32, 1).answer)?;
+    show(rt, 0x07, set_critical_at_job(t, 9, 0, 1).answer)?;
+    show(rt, 0x07, set_critical_at_job(t, 2, 9, 1).answer)?;
+    show(rt, 0x07, set_critical_at_job(t, 2, 3, 1).answer)?;
+    show(rt, 0x07, set_critical_at_job(t, 0, 3, 1).answer)?;
+    show(rt, 0x1c, process_calls::get_info(t, 64).answer)?;
+    show(rt, 0x1c, process_calls::get_info(t, 9).answer)?;
+    Ok(())
 }
 
 // Process 0 runs once thread 1 was started with it.
-fn starts(t: Tables) {
-    show(0x04, process_calls::start(t, 64, 0).answer);
-    show(0x04, process_calls::start(t, 0, 128).answer);
-    show(0x04, process_calls::start(t, 9, 9).answer);
-    show(0x04, process_calls::start(t, 0, 9).answer);
-    show(0x04, process_calls::start(t, 2, 1).answer);
-    show(0x04, process_calls::start(t, 2, 0).answer);
+fn starts(rt: &impl Print, t: Tables) -> io::Result<()> {
+    show(rt, 0x04, process_calls::start(t, 64, 0).answer)?;
+    show(rt, 0x04, process_calls::start(t, 0, 128).answer)?;
+    show(rt, 0x04, process_calls::start(t, 9, 9).answer)?;
+    show(rt, 0x04, process_calls::start(t, 0, 9).answer)?;
+    show(rt, 0x04, process_calls::start(t, 2, 1).answer)?;
+    show(rt, 0x04, process_calls::start(t, 2, 0).answer)?;
     let running = process_calls::start(t, 0, 0).tables;
     let another = thread_calls::create_with_ext(running, 0, 9).tables;
-    show(0x04, process_calls::start(another, 0, 9).answer);
-    show(0x0c, thread_calls::finish(t, 128).answer);
-    show(0x0c, thread_calls::finish(t, 9).answer);
-    show(0x0c, thread_calls::finish(t, 0).answer);
-    show(0x0c, thread_calls::finish(t, 4).answer);
+    show(rt, 0x04, process_calls::start(another, 0, 9).answer)?;
+    show(rt, 0x0c, thread_calls::finish(t, 128).answer)?;
+    show(rt, 0x0c, thread_calls::finish(t, 9).answer)?;
+    show(rt, 0x0c, thread_calls::finish(t, 0).answer)?;
+    show(rt, 0x0c, thread_calls::finish(t, 4).answer)?;
     let finished = thread_calls::finish(t, 1).tables;
-    show(0x0c, thread_calls::finish(finished, 1).answer);
+    show(rt, 0x0c, thread_calls::finish(finished, 1).answer)?;
+    Ok(())
 }
 
-fn threads(t: Tables) {
-    show(0x08, thread_calls::create_with_ext(t, 64, 9).answer);
-    show(0x08, thread_calls::create_with_ext(t, 0, 128).answer);
-    show(0x08, thread_calls::create_with_ext(t, 9, 0).answer);
-    show(0x08, thread_calls::create_with_ext(t, 1, 0).answer);
-    show(0x08, thread_calls::create_with_ext(t, 1, 9).answer);
-    show(0x09, thread_calls::start(t, 128).answer);
-    show(0x09, thread_calls::start(t, 9).answer);
-    show(0x09, thread_calls::start(t, 1).answer);
-    show(0x0a, thread_calls::kill(t, 128).answer);
-    show(0x0a, thread_calls::kill(t, 9).answer);
-    show(0x0b, thread_calls::exit(t, 128).answer);
-    show(0x0b, thread_calls::exit(t, 9).answer);
-    show(0x0b, thread_calls::exit(t, 0).answer);
-    show(0x1d, thread_calls::get_thread_info(t, 128).answer);
-    show(0x1d, thread_calls::get_thread_info(t, 9).answer);
+fn threads(rt: &impl Print, t: Tables) -> io::Result<()> {
+    show(rt, 0x08, thread_calls::create_with_ext(t, 64, 9).answer)?;
+    show(rt, 0x08, thread_calls::create_with_ext(t, 0, 128).answer)?;
+    show(rt, 0x08, thread_calls::create_with_ext(t, 9, 0).answer)?;
+    show(rt, 0x08, thread_calls::create_with_ext(t, 1, 0).answer)?;
+    show(rt, 0x08, thread_calls::create_with_ext(t, 1, 9).answer)?;
+    show(rt, 0x09, thread_calls::start(t, 128).answer)?;
+    show(rt, 0x09, thread_calls::start(t, 9).answer)?;
+    show(rt, 0x09, thread_calls::start(t, 1).answer)?;
+    show(rt, 0x0a, thread_calls::kill(t, 128).answer)?;
+    show(rt, 0x0a, thread_calls::kill(t, 9).answer)?;
+    show(rt, 0x0b, thread_calls::exit(t, 128).answer)?;
+    show(rt, 0x0b, thread_calls::exit(t, 9).answer)?;
+    show(rt, 0x0b, thread_calls::exit(t, 0).answer)?;
+    show(rt, 0x1d, thread_calls::get_thread_info(t, 128).answer)?;
+    show(rt, 0x1d, thread_calls::get_thread_info(t, 9).answer)?;
+    Ok(())
 }
 
-fn waits(t: Tables) {
-    show(0x19, thread_calls::begin_wait(t, 128, 4).answer);
-    show(0x19, thread_calls::begin_wait(t, 128, 3).answer);
-    show(0x19, thread_calls::begin_wait(t, 9, 3).answer);
-    show(0x19, thread_calls::begin_wait(t, 0, 3).answer);
-    show(0x19, thread_calls::begin_wait(t, 4, 3).answer);
-    show(0x1a, thread_calls::poll_wait(t, 128, 8).answer);
-    show(0x1a, thread_calls::poll_wait(t, 128, 7).answer);
-    show(0x1a, thread_calls::poll_wait(t, 9, 7).answer);
-    show(0x1a, thread_calls::poll_wait(t, 1, 7).answer);
+fn waits(rt: &impl Print, t: Tables) -> io::Result<()> {
+    show(rt, 0x19, thread_calls::begin_wait(t, 128, 4).answer)?;
+    show(rt, 0x19, thread_calls::begin_wait(t, 128, 3).answer)?;
+    show(rt, 0x19, thread_calls::begin_wait(t, 9, 3).answer)?;
+    show(rt, 0x19, thread_calls::begin_wait(t, 0, 3).answer)?;
+    show(rt, 0x19, thread_calls::begin_wait(t, 4, 3).answer)?;
+    show(rt, 0x1a, thread_calls::poll_wait(t, 128, 8).answer)?;
+    show(rt, 0x1a, thread_calls::poll_wait(t, 128, 7).answer)?;
+    show(rt, 0x1a, thread_calls::poll_wait(t, 9, 7).answer)?;
+    show(rt, 0x1a, thread_calls::poll_wait(t, 1, 7).answer)?;
+    Ok(())
 }
 
 // Token 0 is on process 0, which has a thread made after it.
-fn suspends(t: Tables) {
-    show(0x0d, token_calls::create(t, 64, 3, 128).answer);
-    show(0x0d, token_calls::create(t, 64, 2, 9).answer);
-    show(0x0d, token_calls::create(t, 0, 2, 128).answer);
-    show(0x0d, token_calls::create(t, 0, 2, 9).answer);
-    show(0x0d, token_calls::create(t, 0, 0, 1).answer);
-    show(0x0d, token_calls::create(t, 0, 2, 3).answer);
+fn suspends(rt: &impl Print, t: Tables) -> io::Result<()> {
+    show(rt, 0x0d, token_calls::create(t, 64, 3, 128).answer)?;
+    show(rt, 0x0d, token_calls::create(t, 64, 2, 9).answer)?;
+    show(rt, 0x0d, token_calls::create(t, 0, 2, 128).answer)?;
+    show(rt, 0x0d, token_calls::create(t, 0, 2, 9).answer)?;
+    show(rt, 0x0d, token_calls::create(t, 0, 0, 1).answer)?;
+    show(rt, 0x0d, token_calls::create(t, 0, 2, 3).answer)?;
     let held = token_calls::create(t, 0, 1, 2).tables;
-    show(0x0d, token_calls::create(held, 0, 0, 1).answer);
+    show(rt, 0x0d, token_calls::create(held, 0, 0, 1).answer)?;
     let later = thread_calls::create_with_ext(held, 2, 9).tables;
-    show(0x0e, token_calls::drop(later, 64).answer);
-    show(0x0e, token_calls::drop(later, 9).answer);
-    show(0x0e, token_calls::drop(later, 0).answer);
-    show(0x1e, token_calls::suspend(t, 3, 128).answer);
-    show(0x1e, token_calls::suspend(t, 2, 128).answer);
-    show(0x1e, token_calls::suspend(t, 2, 9).answer);
-    show(0x1e, token_calls::suspend(t, 0, 1).answer);
-    show(0x1e, token_calls::suspend(t, 2, 3).answer);
-    show(0x1f, token_calls::resume(t, 3, 128).answer);
-    show(0x1f, token_calls::resume(t, 2, 128).answer);
-    show(0x1f, token_calls::resume(t, 2, 9).answer);
-    show(0x1f, token_calls::resume(t, 0, 1).answer);
-    show(0x1f, token_calls::resume(t, 2, 0).answer);
+    show(rt, 0x0e, token_calls::drop(later, 64).answer)?;
+    show(rt, 0x0e, token_calls::drop(later, 9).answer)?;
+    show(rt, 0x0e, token_calls::drop(later, 0).answer)?;
+    show(rt, 0x1e, token_calls::suspend(t, 3, 128).answer)?;
+    show(rt, 0x1e, token_calls::suspend(t, 2, 128).answer)?;
+    show(rt, 0x1e, token_calls::suspend(t, 2, 9).answer)?;
+    show(rt, 0x1e, token_calls::suspend(t, 0, 1).answer)?;
+    show(rt, 0x1e, token_calls::suspend(t, 2, 3).answer)?;
+    show(rt, 0x1f, token_calls::resume(t, 3, 128).answer)?;
+    show(rt, 0x1f, token_calls::resume(t, 2, 128).answer)?;
+    show(rt, 0x1f, token_calls::resume(t, 2, 9).answer)?;
+    show(rt, 0x1f, token_calls::resume(t, 0, 1).answer)?;
+    show(rt, 0x1f, token_calls::resume(t, 2, 0).answer)?;
+    Ok(())
 }
 
 // The levels of process 1 are shut; level 4 of job 1 is bound.
-fn levels(t: Tables) {
-    let bound = exception_calls::create_channel(t, 4, 1).tables;
-    show(0x12, exception_calls::create_channel(bound, 6, 128).answer);
-    show(0x12, exception_calls::create_channel(bound, 0, 128).answer);
-    show(0x12, exception_calls::create_channel(bound, 2, 128).answer);
-    show(0x12, exception_calls::create_channel(bound, 2, 9).answer);
-    show(0x12, exception_calls::create_channel(bound, 3, 1).answer);
-    show(0x12, exception_calls::create_channel(bound, 4, 1).answer);
-    show(0x13, exception_calls::hang_up(bound, 6, 128).answer);
-    show(0x13, exception_calls::hang_up(bound, 4, 32).answer);
-    show(0x13, exception_calls::hang_up(bound, 4, 9).answer);
-    show(0x13, exception_calls::hang_up(bound, 5, 1).answer);
-    show(
-        0x14,
-        exception_calls::handle_exception(t, 128, 0x8408).answer,
-    );
-    show(0x14, exception_calls::handle_exception(t, 128, 8).answer);
-    show(0x14, exception_calls::handle_exception(t, 9, 8).answer);
-    show(0x14, exception_calls::handle_exception(t, 0, 8).answer);
-    show(0x14, exception_calls::handle_exception(t, 4, 8).answer);
-    show(0x15, exception_calls::close(t, 128).answer);
-    show(0x15, exception_calls::close(t, 9).answer);
-    show(0x15, exception_calls::close(t, 1).answer);
+fn levels(rt: &impl Print, t: Tables) -> io::Result<()> {
+    let bound = create_channel(t, 4, 1).tables;
+    show(rt, 0x12, create_channel(bound, 6, 128).answer)?;
+    show(rt, 0x12, create_channel(bound, 0, 128).answer)?;
+    show(rt, 0x12, create_channel(bound, 2, 128).answer)?;
+    show(rt, 0x12, create_channel(bound, 2, 9).answer)?;
+    show(rt, 0x12, create_channel(bound, 3, 1).answer)?;
+    show(rt, 0x12, create_channel(bound, 4, 1).answer)?;
+    show(rt, 0x13, hang_up(bound, 6, 128).answer)?;
+    show(rt, 0x13, hang_up(bound, 4, 32).answer)?;
+    show(rt, 0x13, hang_up(bound, 4, 9).answer)?;
+    show(rt, 0x13, hang_up(bound, 5, 1).answer)?;
+    show(rt, 0x14, handle_exception(t, 128, 0x8408).answer)?;
+    show(rt, 0x14, handle_exception(t, 128, 8).answer)?;
+    show(rt, 0x14, handle_exception(t, 9, 8).answer)?;
+    show(rt, 0x14, handle_exception(t, 0, 8).answer)?;
+    show(rt, 0x14, handle_exception(t, 4, 8).answer)?;
+    show(rt, 0x15, exception_calls::close(t, 128).answer)?;
+    show(rt, 0x15, exception_calls::close(t, 9).answer)?;
+    show(rt, 0x15, exception_calls::close(t, 1).answer)?;
+    Ok(())
 }
 
 // Thread 1 waits in an exception at its own level.
-fn handlers(t: Tables) {
-    let bound = exception_calls::create_channel(t, 2, 1).tables;
-    let raised = exception_calls::handle_exception(bound, 1, 8).tables;
-    show(0x16, exception_calls::set_state(raised, 128, 2).answer);
-    show(0x16, exception_calls::set_state(raised, 9, 2).answer);
-    show(0x16, exception_calls::set_state(raised, 4, 2).answer);
-    show(0x16, exception_calls::set_state(raised, 1, 2).answer);
-    show(0x17, exception_calls::set_strategy(raised, 128, 2).answer);
-    show(0x17, exception_calls::set_strategy(raised, 9, 2).answer);
-    show(0x17, exception_calls::set_strategy(raised, 4, 2).answer);
-    show(0x17, exception_calls::set_strategy(raised, 1, 2).answer);
-    show(0x17, exception_calls::set_strategy(raised, 1, 1).answer);
+fn handlers(rt: &impl Print, t: Tables) -> io::Result<()> {
+    let bound = create_channel(t, 2, 1).tables;
+    let raised = handle_exception(bound, 1, 8).tables;
+    show(rt, 0x16, exception_calls::set_state(raised, 128, 2).answer)?;
+    show(rt, 0x16, exception_calls::set_state(raised, 9, 2).answer)?;
+    show(rt, 0x16, exception_calls::set_state(raised, 4, 2).answer)?;
+    show(rt, 0x16, exception_calls::set_state(raised, 1, 2).answer)?;
     show(
-        0x18,
-        exception_calls::get_process_handle(raised, 128).answer,
-    );
-    show(0x18, exception_calls::get_process_handle(raised, 9).answer);
-    show(0x18, exception_calls::get_process_handle(raised, 4).answer);
-    show(0x18, exception_calls::get_process_handle(raised, 1).answer);
+        rt,
+        0x17,
+        exception_calls::set_strategy(raised, 128, 2).answer,
+    )?;
+    show(rt, 0x17, exception_calls::set_strategy(raised, 9, 2).answer)?;
+    show(rt, 0x17, exception_calls::set_strategy(raised, 4, 2).answer)?;
+    show(rt, 0x17, exception_calls::set_strategy(raised, 1, 2).answer)?;
+    show(rt, 0x17, exception_calls::set_strategy(raised, 1, 1).answer)?;
+    show(rt, 0x18, get_process_handle(raised, 128).answer)?;
+    show(rt, 0x18, get_process_handle(raised, 9).answer)?;
+    show(rt, 0x18, get_process_handle(raised, 4).answer)?;
+    show(rt, 0x18, get_process_handle(raised, 1).answer)?;
+    Ok(())
 }
 
-fn main() {
+fn main(rt: HostRuntime) -> io::Result<()> {
     let t = tasks();
-    jobs(t);
-    policies(t);
-    processes(t);
-    starts(t);
-    threads(t);
-    waits(t);
-    suspends(t);
-    levels(t);
-    handlers(t);
-    slices::all();
+    jobs(&rt, t)?;
+    policies(&rt, t)?;
+    processes(&rt, t)?;
+    starts(&rt, t)?;
+    threads(&rt, t)?;
+    waits(&rt, t)?;
+    suspends(&rt, t)?;
+    levels(&rt, t)?;
+    handlers(&rt, t)?;
+    slices::all(&rt)
 }

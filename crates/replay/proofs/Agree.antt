@@ -1,6 +1,6 @@
 -- Laws of `common` and `begins`: a loop over the common front, and that all of a list is common where the other begins
 -- with it. Assumes nothing.
-use Prim.Native.Nat.{ℕ, zero, suc, ◌+◌, ◌-◌, ◌<◌, ◌≤◌}
+use Prim.Native.Nat.{ℕ, suc, ◌+◌, ◌-◌, ◌<◌, ◌≤◌}
 use mathlib.Core.Path.{◌≡◌, refl, sym, ◌∙◌, ap}
 use mathlib.Core.Bool.{Bool, true, false}
 use mathlib.Core.List.{List, [], ◌∷◌, ◌++◌}
@@ -83,7 +83,7 @@ nothing_written l (x ∷ w) r e = absurd (omega arith)
 
 -- the fields as the code computes them
 pub some_written : (l : Lines) (w r : List ℕ) → (length w ≡ 0 → ⊥) → judged l w r ≡ record {
-  fd = l.fd;
+  file = l.file;
   at = capped l.at (common w r);
   end = l.end;
   same = l.same and (common w r =? length w);

@@ -1,6 +1,8 @@
 -- What it means that the recorded lines agree with what was written, and how a list stands after that.
-use Rattle.std.specs.Prelude.{ℕ, zero, suc, ◌+◌, ◌*◌, ◌-◌, ◌^◌, ◌≤◌, ◌≡◌, Bool, true, false, List, [], ◌∷◌, length, get_or, take, drop, ℤ}
+use Rattle.std.specs.Prelude.{ℕ, suc, ◌+◌, ◌*◌, ◌-◌, ◌^◌, ◌≤◌, ◌≡◌, Bool, true, false, List, [], ◌∷◌, length, get_or, take, drop}
 use Rattle.laws.specs.Choice.{◌<?◌, ◌=?◌, ◌and◌, if◌then◌else◌, ite}
+use Rattle.std.specs.Borrow.{Bor}
+use Rattle.std.specs.declared.fs.File.{File}
 use Rattle.replay.specs.declared.pack.Lines.{Lines}
 use Rattle.replay.specs.declared.pack.Length.{Length}
 use Rattle.replay.specs.declared.pack.Length.TheVariants.{End, Cut, Of}
@@ -43,19 +45,19 @@ length_of got l = if got =? 0 then End else if got <? 4 then Cut else Of (number
 
 -- ---- How a list stands ---------------------------------------------------------------------
 
-abbrev pub lines_from : ℤ → ℕ → Lines
-lines_from fd end = record { fd = fd; at = 0; end = end; same = true; cut = false; stop = false }
+abbrev pub lines_from : Bor File → ℕ → Lines
+lines_from file end = record { file = file; at = 0; end = end; same = true; cut = false; stop = false }
 
 -- the file ends too early
 abbrev pub cut_off : Lines → Lines
-cut_off l = record { fd = l.fd; at = l.at; end = l.end; same = false; cut = true; stop = l.stop }
+cut_off l = record { file = l.file; at = l.at; end = l.end; same = false; cut = true; stop = l.stop }
 
 -- after w was written, and r came of the recorded lines: w has to stand there whole. The file is cut where less came
 -- than was written and was still to come
 unfoldable pub judged : Lines → List ℕ → List ℕ → Lines
 judged l [] r = l
 judged l (x ∷ w) r = record {
-  fd = l.fd;
+  file = l.file;
   at = capped l.at (common (x ∷ w) r);
   end = l.end;
   same = l.same and begins (x ∷ w) r;
@@ -72,7 +74,7 @@ pub record Compares (l : Lines) (w want : List ℕ) (r : Lines) : Type 0 where
 -- the end of the list: what else has to hold does, and no line is left
 abbrev pub over : Lines → Bool → Lines
 over l holds = record {
-  fd = l.fd;
+  file = l.file;
   at = l.at;
   end = l.end;
   same = l.same and holds and (l.at =? l.end);
@@ -81,10 +83,10 @@ over l holds = record {
 }
 
 -- the lines of an entry, by what its length is
-unfoldable pub lines_behind : ℤ → Length → Lines
-lines_behind fd End = cut_off (lines_from fd 0)
-lines_behind fd Cut = cut_off (lines_from fd 0)
-lines_behind fd (Of n) = lines_from fd n
+unfoldable pub lines_behind : Bor File → Length → Lines
+lines_behind file End = cut_off (lines_from file 0)
+lines_behind file Cut = cut_off (lines_from file 0)
+lines_behind file (Of n) = lines_from file n
 
 -- the lines were passed over in the file of calls, or it ends among them
 unfoldable pub passed : Lines → Bool → Lines

@@ -5,6 +5,7 @@ ghost use Rattle.replay.specs.Agree.{Follows, Finishes, Replays};
 
 use crate::pack;
 use crate::pack::Lines;
+use std::fs::File;
 use stream_state::State;
 
 // So many bytes of calls are read at once. Long lists are so cut at every place of a call, and the lines of a part can
@@ -13,18 +14,18 @@ const PART: usize = 2999;
 
 // Where a list stands: `have` bytes of calls are at the front of the buffer and not yet used.
 #[derive(Drop)]
-struct Progress {
+struct Progress<'a> {
     state: State,
-    lines: Lines,
+    lines: Lines<'a>,
     have: usize,
     finished: bool,
     going: bool,
 }
 
 // Goes on unless a line differed or the recorder finished.
-fn stands(state: State, lines: Lines, have: usize, finished: bool) -> Progress
+fn stands(state: State, lines: Lines<'_>, have: usize, finished: bool) -> Progress<'_>
     ensures have_value { result.have ≡ have }
-    ensures lines_value { result.lines ≡ lines }
+    ensures lines_value { result.lines ≡ lines.entry }
 {
     Progress {
         state,
@@ -36,9 +37,15 @@ fn stands(state: State, lines: Lines, have: usize, finished: bool) -> Progress
 }
 
 // Calls the recorder on what is there until no whole call is left, and compares the lines.
-fn drain(state: State, recorded: Lines, buf: &[u8], out: &mut [u8], want: &mut [u8]) -> Progress
+fn drain<'a>(
+    state: State,
+    recorded: Lines<'a>,
+    buf: &[u8],
+    out: &mut [u8],
+    want: &mut [u8],
+) -> Progress<'a>
     ensures have_in_bounds { result.have ≤ length buf.now }
-    ensures follows { Follows recorded result.lines }
+    ensures follows { Follows recorded.entry result.lines }
 {
     let mut s = state;
     let mut lines = recorded;
@@ -74,15 +81,15 @@ fn shift(buf: &mut [u8], have: usize, n: usize)
 }
 
 // Reads a part of the calls behind what is there, and does what came. Behind the end of the list nothing is done.
-fn turn(
-    calls: i32,
+fn turn<'a>(
+    calls: &File,
     part: usize,
-    p: Progress,
+    p: Progress<'a>,
     buf: &mut [u8],
     out: &mut [u8],
     want: &mut [u8],
-) -> Progress
-    ensures { Follows p.lines result.lines }
+) -> Progress<'a>
+    ensures { Follows p.entry.lines result.lines }
 {
     let have = pack::least(p.have, buf.len());
     let state = p.state;
@@ -90,7 +97,7 @@ fn turn(
     let n = pack::least(part, buf.len() - have);
     let end = have + n;
     let room = &mut buf[have..end];
-    let got = io::read_full(calls, room);
+    let got = pack::read_full(calls, room);
     if got < part {
         return stands(state, pack::cut(lines), 0, false);
     }
@@ -104,8 +111,8 @@ fn turn(
 }
 
 // The end of the calls. The last line is a stop if the recorder finished there or a cut call is left, and only then.
-fn finish(p: Progress, buf: &mut [u8], out: &mut [u8], want: &mut [u8]) -> Lines
-    ensures { Finishes p.lines result }
+fn finish<'a>(p: Progress<'a>, buf: &mut [u8], out: &mut [u8], want: &mut [u8]) -> Lines<'a>
+    ensures { Finishes p.entry.lines result }
 {
     let state = p.state;
     let lines = p.lines;
@@ -122,15 +129,15 @@ fn finish(p: Progress, buf: &mut [u8], out: &mut [u8], want: &mut [u8]) -> Lines
 }
 
 // Reads all calls, part by part.
-fn run(
-    calls: i32,
+fn run<'a>(
+    calls: &File,
     length: usize,
-    recorded: Lines,
+    recorded: Lines<'a>,
     buf: &mut [u8],
     out: &mut [u8],
     want: &mut [u8],
-) -> Progress
-    ensures { Follows recorded result.lines }
+) -> Progress<'a>
+    ensures { Follows recorded.entry result.lines }
 {
     let mut p = stands(stream_state::fresh(), recorded, 0, false);
     let mut unread = length;
@@ -143,15 +150,15 @@ fn run(
 }
 
 // Replays the list whose calls, of the given length, come next, and passes over the lines behind them.
-pub fn replay(
-    calls: i32,
+pub fn replay<'a>(
+    calls: &File,
     length: usize,
-    recorded: Lines,
+    recorded: Lines<'a>,
     buf: &mut [u8],
     out: &mut [u8],
     want: &mut [u8],
-) -> Lines
-    ensures { Replays recorded result }
+) -> Lines<'a>
+    ensures { Replays recorded.entry result }
 {
     if !recorded.same {
         return recorded;

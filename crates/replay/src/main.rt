@@ -1,10 +1,14 @@
 // replay: holds the library to the lists in data/ and the lines that the Rust wrote for them. Writes a line for each
 // pack, up to its first list that differs.
+#![tactic(auto)]
+
 mod list;
 mod pack;
 
-use libc::STDOUT_FILENO;
 use pack::{Length, Lines};
+use std::fs::File;
+use std::io;
+use std::rt::Files;
 
 // How far a pack came: its lists, the bytes of lines that agreed in all, and those of the last list.
 #[derive(Drop)]
@@ -19,7 +23,7 @@ struct Total {
 
 impl Total {
     // One list more.
-    fn with(self, lines: Lines) -> Total {
+    fn with(self, lines: Lines<'_>) -> Total {
         Total {
             lists: pack::add(self.lists, 1),
             bytes: pack::add(self.bytes, lines.at),
@@ -45,8 +49,8 @@ impl Total {
 
 // Replays the list that comes next, if one does.
 fn next(
-    calls: i32,
-    lines: i32,
+    calls: &File,
+    lines: &File,
     total: Total,
     buf: &mut [u8],
     out: &mut [u8],
@@ -63,9 +67,8 @@ fn next(
     }
 }
 
-// Replays all lists. A proved loop has to end, and nothing says that a file does: it counts down from a number that no
-// run uses up.
-fn all(calls: i32, lines: i32, buf: &mut [u8], out: &mut [u8], want: &mut [u8]) -> Total {
+// Replays all lists. A proved loop has to end, and nothing says that a file does: no run takes so many turns.
+fn all(calls: &File, lines: &File, buf: &mut [u8], out: &mut [u8], want: &mut [u8]) -> Total {
     let mut total = Total {
         lists: 0,
         bytes: 0,
@@ -74,73 +77,48 @@ fn all(calls: i32, lines: i32, buf: &mut [u8], out: &mut [u8], want: &mut [u8]) 
         cut: false,
         going: true,
     };
-    let mut turns = u64::MAX;
-    while turns > 0 && total.going {
+    for _ in 0..u64::MAX {
+        if !total.going {
+            return total;
+        }
         total = next(calls, lines, total, buf, out, want);
-        turns -= 1;
     }
     total
 }
 
-// Text for standard output.
-fn put(text: &[u8]) {
-    io::write_all(STDOUT_FILENO, text);
-}
-
-// A number in decimal digits.
-fn put_number(n: usize) {
-    io::print_decimal(STDOUT_FILENO, n as u64);
-}
-
 // The line of a pack. Lists are numbered from 1.
-fn report(name: &[u8], total: Total) {
-    put(name);
+fn report(rt: &impl Print, name: &str, total: Total) -> io::Result<()> {
+    let lists = total.lists;
     if total.same {
-        put(b" agrees. Lists: ");
-        put_number(total.lists);
-        put(b", bytes of lines: ");
-        put_number(total.bytes);
-        put(b"\n");
-        return;
+        let bytes = total.bytes;
+        return println!(rt; "{name} agrees. Lists: {lists}, bytes of lines: {bytes}");
     }
-    put(b": list ");
-    put_number(total.lists);
-    if total.cut {
-        put(b" is cut after ");
-    } else {
-        put(b" differs after ");
-    }
-    put_number(total.last);
-    put(b" bytes of its lines\n");
+    let how = if total.cut { "is cut" } else { "differs" };
+    let last = total.last;
+    println!(rt; "{name}: list {lists} {how} after {last} bytes of its lines")
 }
 
-// Replays a pack. One descriptor reads the calls, the other the lines.
-fn replay_pack(name: &[u8]) {
-    let calls = os::open_read(name);
-    let lines = os::open_read(name);
-    if calls < 0 || lines < 0 {
-        put(name);
-        put(b": missing\n");
-        return;
-    }
-    let mut buf = io::large_buffer();
-    let mut out = io::buffer();
-    let mut want = io::large_buffer();
-    let total = all(calls, lines, &mut buf, &mut out, &mut want);
-    report(name, total);
-    libc::close(calls);
-    libc::close(lines);
+// Replays a pack. One file reads the calls, the other the lines.
+fn replay_pack(rt: &(impl Files<File = File> + Print), name: &str) -> io::Result<()> {
+    let (Ok(calls), Ok(lines)) = (File::open(rt, name), File::open(rt, name)) else {
+        return println!(rt; "{name}: missing");
+    };
+    let mut buf = [0u8; 65536];
+    let mut out = [0u8; 4096];
+    let mut want = [0u8; 65536];
+    let total = all(&calls, &lines, &mut buf, &mut out, &mut want);
+    report(rt, name, total)
 }
 
 // The packs that have to agree, and four that must not, so that a replay that finds nothing shows. The second list of
 // each has a byte of its lines changed, lacks its last line, has a line too many, or is cut.
-fn main() {
-    replay_pack(b"named.pack");
-    replay_pack(b"counts.pack");
-    replay_pack(b"random.pack");
-    replay_pack(b"manual.pack");
-    replay_pack(b"wrong.pack");
-    replay_pack(b"short.pack");
-    replay_pack(b"left.pack");
-    replay_pack(b"cut.pack");
+fn main(rt: HostRuntime) -> io::Result<()> {
+    replay_pack(&rt, "named.pack")?;
+    replay_pack(&rt, "counts.pack")?;
+    replay_pack(&rt, "random.pack")?;
+    replay_pack(&rt, "manual.pack")?;
+    replay_pack(&rt, "wrong.pack")?;
+    replay_pack(&rt, "short.pack")?;
+    replay_pack(&rt, "left.pack")?;
+    replay_pack(&rt, "cut.pack")
 }

@@ -1,11 +1,15 @@
 // pack: a file of lists. An entry is the length of the calls in 4 little-endian bytes, the calls, the length of the
 // lines in 4 bytes, the lines.
 ghost use Rattle.std.specs.Prelude.{ℕ, ◌-◌, ◌≤◌, ◌≡◌, Bool};
+ghost use Rattle.io.specs.Counts.{IsPrefixLen};
 ghost use Rattle.laws.specs.Choice.{◌and◌};
 ghost use Rattle.replay.specs.Agree.{common, is_stop, smaller, capped, length_of};
 ghost use Rattle.replay.specs.Agree.{number as number_of};
 ghost use Rattle.replay.specs.Agree.{lines_from, cut_off, judged, over, passed};
 ghost use Rattle.replay.specs.Agree.{lines_behind, Compares};
+
+use std::fs::File;
+use std::io::Read;
 
 // What stands where a length is read.
 #[derive(Clone, Copy)]
@@ -17,8 +21,8 @@ pub enum Length {
 
 // How far the recorded lines of a list are compared: `at` bytes of `end` agreed.
 #[derive(Clone, Copy)]
-pub struct Lines {
-    pub fd: i32,
+pub struct Lines<'a> {
+    pub file: &'a File,
     pub at: usize,
     pub end: usize,
     // Whether nothing differed yet, and where something did, whether it is that the file ends.
@@ -87,11 +91,11 @@ fn number(b: &[u8; 4]) -> usize
 // -- How a list stands ---------------------------------------------------------------------------
 
 // The lines of a list before any is compared.
-pub fn lines_from(fd: i32, end: usize) -> Lines
-    ensures { result ≡ lines_from fd end }
+pub fn lines_from(file: &File, end: usize) -> Lines<'_>
+    ensures { result ≡ lines_from file.entry end }
 {
     Lines {
-        fd,
+        file,
         at: 0,
         end,
         same: true,
@@ -101,8 +105,8 @@ pub fn lines_from(fd: i32, end: usize) -> Lines
 }
 
 // The same where the file ends too early.
-pub fn cut(lines: Lines) -> Lines
-    ensures { result ≡ cut_off lines }
+pub fn cut(lines: Lines<'_>) -> Lines<'_>
+    ensures { result ≡ cut_off lines.entry }
 {
     let mut l = lines;
     l.same = false;
@@ -111,8 +115,8 @@ pub fn cut(lines: Lines) -> Lines
 }
 
 // The end of the list: whether what else has to hold does, and no line is left.
-pub fn ended(lines: Lines, holds: bool) -> Lines
-    ensures { result ≡ over lines holds }
+pub fn ended(lines: Lines<'_>, holds: bool) -> Lines<'_>
+    ensures { result ≡ over lines.entry holds }
 {
     let mut l = lines;
     l.same = both(lines.same, both(holds, lines.at == lines.end));
@@ -146,8 +150,8 @@ fn is_stop(lines: &[u8]) -> bool
 
 // How a list stands after `written` was written, where `came` is what the file has there. All that was written has to
 // stand there.
-fn judge(lines: Lines, written: &[u8], came: &[u8]) -> Lines
-    ensures { result ≡ judged lines written.now came.now }
+fn judge<'a>(lines: Lines<'a>, written: &[u8], came: &[u8]) -> Lines<'a>
+    ensures { result ≡ judged lines.entry written.now came.now }
 {
     let n = written.len();
     if n == 0 {
@@ -164,11 +168,27 @@ fn judge(lines: Lines, written: &[u8], came: &[u8]) -> Lines
 
 // -- Reading -------------------------------------------------------------------------------------
 
+// Reads until the buffer is full, the file ends or a read fails, and says how many bytes came.
+pub fn read_full(file: &File, buf: &mut [u8]) -> usize
+    ensures { IsPrefixLen result buf.new }
+{
+    let mut reader = file;
+    let mut done: usize = 0;
+    while done < buf.len() {
+        match reader.read(&mut buf[done..]) {
+            Ok(0) => return done,
+            Ok(n) => done += n,
+            Err(_) => return done,
+        }
+    }
+    done
+}
+
 // The length that comes next.
-pub fn next_length(fd: i32, bytes: &mut [u8; 4]) -> Length
+pub fn next_length(file: &File, bytes: &mut [u8; 4]) -> Length
     ensures { (got : ℕ) × (result ≡ length_of got bytes.new) }
 {
-    let got = io::read_full(fd, bytes);
+    let got = read_full(file, bytes);
     if got == 0 {
         return Length::End;
     }
@@ -179,11 +199,11 @@ pub fn next_length(fd: i32, bytes: &mut [u8; 4]) -> Length
 }
 
 // Passes over n bytes, and says whether they were there.
-fn skip(fd: i32, n: usize, buf: &mut [u8]) -> bool {
+fn skip(file: &File, n: usize, buf: &mut [u8]) -> bool {
     let mut left = n;
     while left > 0 {
         let k = least(left, buf.len());
-        let got = io::read_full(fd, &mut buf[..k]);
+        let got = read_full(file, &mut buf[..k]);
         if got == 0 {
             return false;
         }
@@ -193,39 +213,39 @@ fn skip(fd: i32, n: usize, buf: &mut [u8]) -> bool {
 }
 
 // The lines of the entry at whose start the file stands, and whose calls have the given length.
-pub fn lines_behind(fd: i32, calls: usize, buf: &mut [u8]) -> Lines
-    ensures { (found : Length) × (result ≡ lines_behind fd found) }
+pub fn lines_behind<'a>(file: &'a File, calls: usize, buf: &mut [u8]) -> Lines<'a>
+    ensures { (found : Length) × (result ≡ lines_behind file.entry found) }
 {
-    if !skip(fd, add(4, calls), buf) {
-        return cut(lines_from(fd, 0));
+    if !skip(file, add(4, calls), buf) {
+        return cut(lines_from(file, 0));
     }
     let mut bytes = [0u8; 4];
-    match next_length(fd, &mut bytes) {
-        Length::End => cut(lines_from(fd, 0)),
-        Length::Cut => cut(lines_from(fd, 0)),
-        Length::Of(end) => lines_from(fd, end),
+    match next_length(file, &mut bytes) {
+        Length::End => cut(lines_from(file, 0)),
+        Length::Cut => cut(lines_from(file, 0)),
+        Length::Of(end) => lines_from(file, end),
     }
 }
 
 // Passes over the lines of a list, behind its calls.
-pub fn pass(fd: i32, lines: Lines, buf: &mut [u8]) -> Lines
-    ensures { (there : Bool) × (result ≡ passed lines there) }
+pub fn pass<'a>(file: &File, lines: Lines<'a>, buf: &mut [u8]) -> Lines<'a>
+    ensures { (there : Bool) × (result ≡ passed lines.entry there) }
 {
     if !lines.same {
         return lines;
     }
-    if !skip(fd, add(4, lines.end), buf) {
+    if !skip(file, add(4, lines.end), buf) {
         return cut(lines);
     }
     lines
 }
 
 // Reads as many bytes of the recorded lines as were written, and judges.
-pub fn compare(lines: Lines, written: &[u8], want: &mut [u8]) -> Lines
-    ensures { Compares lines written.now want.new result }
+pub fn compare<'a>(lines: Lines<'a>, written: &[u8], want: &mut [u8]) -> Lines<'a>
+    ensures { Compares lines.entry written.now want.new result }
 {
     let there = least(until(lines.at, lines.end), want.len());
     let asked = least(written.len(), there);
-    let got = io::read_full(lines.fd, &mut want[..asked]);
+    let got = read_full(lines.file, &mut want[..asked]);
     judge(lines, written, &want[..got])
 }
