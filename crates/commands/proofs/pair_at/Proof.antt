@@ -9,4 +9,4 @@ pair_at_spec =
     (λ c κs. search rules)
     (λ c. search rules)
     (λ c κs. search rules)
-    (λ c. simp (c.before.byte_at.ensures, c.byte-at2.ensures)))
+    (λ c. simp (c.byte_at.ensures, c.byte_at-2.ensures)))

@@ -8,8 +8,8 @@ signed_of_spec =
     tie.close
     (tie.spec
     (λ c. search rules)
-    (λ c. low_half c.before.args.n c.if1.true)
+    (λ c. low_half c.args.n c.if-n-lt9223372036854775808.true)
     (λ c. search rules)
     (λ c. search rules)
-    (λ c. high_fits c.before.args.n c.if1.false (search rules))
-    (λ c. high_half c.before.args.n c.if1.false (search rules)))
+    (λ c. high_fits c.args.n c.if-n-lt9223372036854775808.false (search rules))
+    (λ c. high_half c.args.n c.if-n-lt9223372036854775808.false (search rules)))

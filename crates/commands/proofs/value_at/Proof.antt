@@ -22,11 +22,10 @@ value_at_spec =
     (λ c. search rules)
     (λ c κs. search rules)
     (λ c.
-    let got : SFits w64 c.Signed-of.result = record { sfits = c.Signed-of.type-inv } in
-    let w = c.before in
-    let low = w.before in
+    let got : SFits w64 c.signed_of.result = record { sfits = c.signed_of.type_inv } in
+    let w = c in
     to_z-of_z {w = w64} got ∙ simp (
-      w.word_at.ensures,
-      low.half-from2.ensures,
-      low.before.half-from.ensures,
-    ) at c.Signed-of.ensures))
+      c.word_at.ensures,
+      c.half_from-2.ensures,
+      c.half_from.ensures,
+    ) at c.signed_of.ensures))

@@ -11,5 +11,5 @@ action_char_spec =
     (λ c. search rules)
     (λ c. search rules)
     (λ c. search rules)
-    (λ c. rw c.enum_told.given.1)
-    (λ c. rw c.before.found.given.1))
+    (λ c. rw c.in-Unset.is)
+    (λ c. rw c.in-Action.is))

@@ -6,9 +6,7 @@ use Rattle.lines.proofs.decimal_field.Tie as tie
 
 returns : tie.Need-returns
 returns c =
-    let f = c.before.before in
-    let s = f.before.before.before.before in
-    (put_then s.put_byte.ensures f.put-decimal.ensures.0, omega arith)
+    (put_then c.put_byte-a.ensures c.put_decimal.ensures.0, omega arith)
 
 pub decimal_field_spec : {M : Type 1} → statement M
 decimal_field_spec =

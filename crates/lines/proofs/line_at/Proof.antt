@@ -6,44 +6,34 @@ use Rattle.lines.proofs.Numbers.{number_is}
 use Rattle.lines.proofs.line_at.Statement.{statement}
 use Rattle.lines.proofs.line_at.Tie as tie
 
-returns : tie.Need-returns
+returns : tie.Need-returns-in-NoFields
 unfolding line_of fields_text
 returns c =
-    let d = c.before.before in
-    let e = d.before.before in
-    (rw e.enum_told.given.1 d.plain-line.ensures.0, d.plain-line.ensures.1)
+    (rw c.in-NoFields.is c.plain_line.ensures.0, c.plain_line.ensures.1)
 
-returns_2 : tie.Need-returns-2
+returns_2 : tie.Need-returns-in-OwnerField
 unfolding line_of fields_text
 returns_2 c =
-    let d = c.before.before in
-    let g = d.before.before.before in
-    (rw g.fields.given.1 d.owner-line.ensures.0, d.owner-line.ensures.1)
+    (rw c.in-OwnerField.is c.owner_line.ensures.0, c.owner_line.ensures.1)
 
-returns_3 : tie.Need-returns-3
+returns_3 : tie.Need-returns-in-JobFields
 unfolding line_of fields_text
 returns_3 c =
-    let d = c.before.before in
-    let g = d.before.before.before in
-    let f : SFits w64 g.fields2.given.0.1.1.0 = search rules in
-    let line = rw (number_is _ f) at d.job-line.ensures.0 in
-    (rw g.fields2.given.1 line, d.job-line.ensures.1)
+    let f : SFits w64 c.in-JobFields.amount = search rules in
+    let line = rw (number_is _ f) at c.job_line.ensures.0 in
+    (rw c.in-JobFields.is line, c.job_line.ensures.1)
 
-returns_4 : tie.Need-returns-4
+returns_4 : tie.Need-returns-in-ProcessFields
 unfolding line_of fields_text
 returns_4 c =
-    let d = c.before.before in
-    let g = d.before.before.before in
-    let f : SFits w64 g.fields3.given.0.0 = search rules in
-    let line = rw (number_is _ f) at d.process-line.ensures.0 in
-    (rw g.fields3.given.1 line, d.process-line.ensures.1)
+    let f : SFits w64 c.in-ProcessFields.code = search rules in
+    let line = rw (number_is _ f) at c.process_line.ensures.0 in
+    (rw c.in-ProcessFields.is line, c.process_line.ensures.1)
 
-returns_5 : tie.Need-returns-5
+returns_5 : tie.Need-returns-in-ThreadFields
 unfolding line_of fields_text
 returns_5 c =
-    let d = c.before.before in
-    let g = d.before.before.before in
-    (rw g.fields4.given.1 d.thread-line.ensures.0, d.thread-line.ensures.1)
+    (rw c.in-ThreadFields.is c.thread_line.ensures.0, c.thread_line.ensures.1)
 
 pub line_at_spec : {M : Type 1} → statement M
 line_at_spec =

@@ -6,11 +6,8 @@ use Rattle.lines.proofs.owner_line.Tie as tie
 
 returns : tie.Need-returns
 returns c =
-    let e = c.before.before in
-    let o = e.before.before.before.before in
-    let h = o.before.before.before.before in
-    let fields = put_then h.put-head.ensures.0 o.decimal-field.ensures.0 in
-    (put_then fields e.put_byte.ensures, omega arith)
+    let fields = put_then c.put_head-a.ensures.0 c.decimal_field-b.ensures.0 in
+    (put_then fields c.put_byte.ensures, omega arith)
 
 pub owner_line_spec : {M : Type 1} → statement M
 owner_line_spec =

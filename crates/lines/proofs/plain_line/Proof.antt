@@ -6,10 +6,8 @@ use Rattle.lines.proofs.plain_line.Tie as tie
 
 returns : tie.Need-returns
 returns c =
-    let e = c.before.before in
-    let h = e.before.before.before.before in
-    let head = put_then h.put-head.ensures.0 (put_none _ _) in
-    (put_then head e.put_byte.ensures, omega arith)
+    let head = put_then c.put_head-a.ensures.0 (put_none _ _) in
+    (put_then head c.put_byte.ensures, omega arith)
 
 pub plain_line_spec : {M : Type 1} → statement M
 plain_line_spec =

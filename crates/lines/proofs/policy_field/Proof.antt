@@ -6,9 +6,7 @@ use Rattle.lines.proofs.policy_field.Tie as tie
 
 returns : tie.Need-returns
 returns c =
-    let f = c.before.before in
-    let s = f.before.before.before.before in
-    (put_then s.put_byte.ensures f.put-policy.ensures.0, omega arith)
+    (put_then c.put_byte-a.ensures c.put_policy.ensures.0, omega arith)
 
 pub policy_field_spec : {M : Type 1} → statement M
 policy_field_spec =

@@ -9,18 +9,10 @@ use Rattle.lines.proofs.process_line.Tie as tie
 returns : tie.Need-returns
 unfolding process_text
 returns c =
-    let e = c.before.before in
-    let t = e.before.before.before.before in
-    let d = t.before.before.before.before in
-    let x = d.before.before.before.before in
-    let b = x.before.before.before.before in
-    let z = b.before.before.before.before in
-    let h = z.before.before.before.before in
-    let s = h.before.before.before in
-    let code = rw (number_is _ s.ranges.code) at z.signed-field.ensures.0 in
-    let p₁ = put_then (put_then code b.flag-field.ensures.0) x.flag-field2.ensures.0 in
-    let p₂ = put_then (put_then p₁ d.flag-field3.ensures.0) t.flag-field4.ensures.0 in
-    (put_then (put_then h.put-head.ensures.0 p₂) e.put_byte.ensures, omega arith)
+    let code = rw (number_is _ c.ranges.code) at c.signed_field-b.ensures.0 in
+    let p₁ = put_then (put_then code c.flag_field-c.ensures.0) c.flag_field-d.ensures.0 in
+    let p₂ = put_then (put_then p₁ c.flag_field-e.ensures.0) c.flag_field-f.ensures.0 in
+    (put_then (put_then c.put_head-a.ensures.0 p₂) c.put_byte.ensures, omega arith)
 
 pub process_line_spec : {M : Type 1} → statement M
 process_line_spec =

@@ -4,10 +4,9 @@ use Rattle.lines.proofs.Numbers.{one_digit}
 use Rattle.lines.proofs.put_decimal.Statement.{statement}
 use Rattle.lines.proofs.put_decimal.Tie as tie
 
-returns : tie.Need-returns
+returns : tie.Need-returns-then-n-lt10
 returns c =
-    let d = c.before.before in
-    (rw (one_digit _ d.before.before.if1.true) at d.put-digit.ensures.0, omega arith)
+    (rw (one_digit _ c.if-n-lt10.true) at c.put_digit.ensures.0, omega arith)
 
 pub put_decimal_spec : {M : Type 1} → statement M
 put_decimal_spec =

@@ -5,9 +5,8 @@ use Rattle.lines.proofs.put_digit.Tie as tie
 
 returns : tie.Need-returns
 returns c =
-    let b = c.before.before in
-    let p = b.put_byte.ensures in
-    (rw (last_digit _ b.before.before.before.requires.1) at p, p.end)
+    let p = c.put_byte.ensures in
+    (rw (last_digit _ c.requires.1) at p, p.end)
 
 pub put_digit_spec : {M : Type 1} → statement M
 put_digit_spec =

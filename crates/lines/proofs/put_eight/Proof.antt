@@ -6,9 +6,7 @@ use Rattle.lines.proofs.put_eight.Tie as tie
 
 returns : tie.Need-returns
 returns c =
-    let l = c.before.before in
-    let f = l.before.before.before.before in
-    (put_twice 4 _ f.put_four.ensures.0 l.put-four2.ensures.0, omega arith)
+    (put_twice 4 _ c.put_four-a.ensures.0 c.put_four.ensures.0, omega arith)
 
 pub put_eight_spec : {M : Type 1} → statement M
 put_eight_spec =

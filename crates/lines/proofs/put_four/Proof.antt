@@ -6,9 +6,7 @@ use Rattle.lines.proofs.put_four.Tie as tie
 
 returns : tie.Need-returns
 returns c =
-    let l = c.before.before in
-    let f = l.before.before.before.before in
-    (put_twice 2 _ f.put_two.ensures.0 l.put-two2.ensures.0, omega arith)
+    (put_twice 2 _ c.put_two-a.ensures.0 c.put_two.ensures.0, omega arith)
 
 pub put_four_spec : {M : Type 1} → statement M
 put_four_spec =

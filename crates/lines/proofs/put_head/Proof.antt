@@ -9,12 +9,9 @@ use Rattle.lines.proofs.put_head.Tie as tie
 
 returns : tie.Need-returns
 returns c =
-    let a = c.before.before in
-    let d = a.before.before.before.before.before in
-    let s = d.before.before.before in
-    let f : SFits w64 s.args.head.answer = search rules in
-    let answer = rw (number_is _ f) at a.signed-field.ensures.0 in
-    (put_then d.put-number.ensures.0 answer, omega arith)
+    let f : SFits w64 c.args.head.answer = search rules in
+    let answer = rw (number_is _ f) at c.signed_field.ensures.0 in
+    (put_then c.put_number-a.ensures.0 answer, omega arith)
 
 pub put_head_spec : {M : Type 1} → statement M
 put_head_spec =

@@ -5,18 +5,16 @@ use Rattle.lines.proofs.Puts.{no_room, with_room}
 use Rattle.lines.proofs.put_line.Statement.{statement}
 use Rattle.lines.proofs.put_line.Tie as tie
 
-returns : tie.Need-returns
+returns : tie.Need-returns-then-out-at
 returns c = (no_room _ _ _ (omega arith), omega arith)
 
-returns_2 : tie.Need-returns-2
-returns_2 c = (no_room _ _ _ c.if2.true, omega arith)
+returns_2 : tie.Need-returns-then-out-at-lt-LINE
+returns_2 c = (no_room _ _ _ c.if-out-at-lt-LINE.true, omega arith)
 
-returns_3 : tie.Need-returns-3
+returns_3 : tie.Need-returns
 returns_3 c =
-    let p = c.before.before in
-    let s = p.before.before.before.before.before in
-    let line = rw (number_is _ s.ranges.answer) at p.line_at_lem.ensures.0 in
-    (with_room p.before.before.if2.false line, p.line_at_lem.ensures.1)
+    let line = rw (number_is _ c.ranges.answer) at c.line_at.ensures.0 in
+    (with_room c.if-out-at-lt-LINE.false line, c.line_at.ensures.1)
 
 pub put_line_spec : {M : Type 1} → statement M
 put_line_spec =

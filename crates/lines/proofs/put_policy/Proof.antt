@@ -13,10 +13,10 @@ use Rattle.lines.proofs.Puts.{Going, go_from, go_on}
 use Rattle.lines.proofs.put_policy.Statement.{statement}
 use Rattle.lines.proofs.put_policy.Tie as tie
 
-abbrev invariant_loop : tie.invariant-loop
+abbrev invariant_loop : tie.invariant-loop-i
 invariant_loop out₀ at policy i₀ o₀ out i o = (i ≤ 15) × Going out₀ out at i o (policy_chars policy i)
 
-abbrev decreases_loop : tie.decreases-loop
+abbrev decreases_loop : tie.decreases-loop-i
 decreases_loop out₀ at policy i₀ o₀ out i o = 15 - i
 
 module _ (p : JobPolicy) (out₀ out : List ℕ) (at i o : ℕ)
@@ -30,22 +30,20 @@ module _ (p : JobPolicy) (out₀ out : List ℕ) (at i o : ℕ)
   unfolding policy_text
   ends h l = let e : i ≡ 15 = omega arith in rw e at inv.put
 
-loop_holds : tie.Need-loop-init invariant_loop decreases_loop
+loop_holds : tie.Need-loop-i-init invariant_loop decreases_loop
 unfolding policy_chars
 loop_holds c = (omega arith, go_from _ _)
 
-loop_again : tie.Need-loop-preserved invariant_loop decreases_loop
+loop_again : tie.Need-loop-i-preserved invariant_loop decreases_loop
 loop_again c =
-    let g = c.before in
-    let l = g.before.before in
-    let e = c.action-char.ensures ∙ ap action_char g.get-action.ensures in
-    let h : l.loop.o < length l.loop.out = omega arith in
-    (omega arith, next _ _ _ _ _ _ l.loop.invariant.1 _ h e)
+    let e = c.action_char.ensures ∙ ap action_char c.get_action.ensures in
+    let h : c.loop-i.o < length c.loop-i.out = omega arith in
+    (omega arith, next _ _ _ _ _ _ c.loop-i.invariant.1 _ h e)
 
 returns : tie.Need-returns invariant_loop decreases_loop
 returns c =
-    let v = c.before.loop.invariant in
-    (ends _ _ _ _ _ _ v.1 c.loop-test.false v.0, omega arith)
+    let v = c.loop-i.invariant in
+    (ends _ _ _ _ _ _ v.1 c.loop-i-test.false v.0, omega arith)
 
 pub put_policy_spec : {M : Type 1} → statement M
 put_policy_spec =
@@ -61,5 +59,5 @@ put_policy_spec =
     (λ c. omega arith)
     (λ c. omega arith)
     loop_again
-    (λ c. c.before.loop.invariant.1.long)
+    (λ c. c.loop-i.invariant.1.long)
     returns)

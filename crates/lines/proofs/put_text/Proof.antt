@@ -11,10 +11,10 @@ use Rattle.lines.proofs.Puts.{Going, go_from, go_on}
 use Rattle.lines.proofs.put_text.Statement.{statement}
 use Rattle.lines.proofs.put_text.Tie as tie
 
-abbrev invariant_loop : tie.invariant-loop
+abbrev invariant_loop : tie.invariant-loop-i
 invariant_loop out₀ at text i₀ o₀ out i o = (i ≤ length text) × Going out₀ out at i o (take i text)
 
-abbrev decreases_loop : tie.decreases-loop
+abbrev decreases_loop : tie.decreases-loop-i
 decreases_loop out₀ at text i₀ o₀ out i o = length text - i
 
 module _ (text out₀ out : List ℕ) (at i o : ℕ) (inv : Going out₀ out at i o (take i text)) where
@@ -25,11 +25,10 @@ module _ (text out₀ out : List ℕ) (at i o : ℕ) (inv : Going out₀ out at 
   ends : length text ≤ i → Put out₀ out at o text
   ends h = rw (take_all i text h) at inv.put
 
-loop_again : tie.Need-loop-preserved invariant_loop decreases_loop
+loop_again : tie.Need-loop-i-preserved invariant_loop decreases_loop
 loop_again c =
-    let l = c.before.before in
-    let h : l.loop.o < length l.loop.out = omega arith in
-    (omega arith, next _ _ _ _ _ _ l.loop.invariant.1 h c.before.loop-test.true)
+    let h : c.loop-i.o < length c.loop-i.out = omega arith in
+    (omega arith, next _ _ _ _ _ _ c.loop-i.invariant.1 h c.loop-i-test.true)
 
 pub put_text_spec : {M : Type 1} → statement M
 put_text_spec =
@@ -44,5 +43,5 @@ put_text_spec =
     (λ c. search rules)
     (λ c. search rules)
     loop_again
-    (λ c. c.before.loop.invariant.1.long)
-    (λ c. ends _ _ _ _ _ _ c.before.loop.invariant.1 c.loop-test.false))
+    (λ c. c.loop-i.invariant.1.long)
+    (λ c. ends _ _ _ _ _ _ c.loop-i.invariant.1 c.loop-i-test.false))

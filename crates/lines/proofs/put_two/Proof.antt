@@ -6,9 +6,7 @@ use Rattle.lines.proofs.put_two.Tie as tie
 
 returns : tie.Need-returns
 returns c =
-    let l = c.before.before in
-    let f = l.before.before.before.before in
-    (put_twice 1 _ f.put-digit.ensures.0 l.put-digit2.ensures.0, omega arith)
+    (put_twice 1 _ c.put_digit-a.ensures.0 c.put_digit.ensures.0, omega arith)
 
 pub put_two_spec : {M : Type 1} → statement M
 put_two_spec =

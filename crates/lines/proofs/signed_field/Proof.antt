@@ -13,66 +13,57 @@ use Rattle.lines.proofs.Numbers.{gap_fits, gap_casts, gap_sum, nonneg}
 use Rattle.lines.proofs.signed_field.Statement.{statement}
 use Rattle.lines.proofs.signed_field.Tie as tie
 
-returns : tie.Need-returns
+returns : tie.Need-returns-then-z-eq0
 returns c =
-    let b = c.before.before in
-    let i = b.before.before in
-    let a = i.before.before.before in
-    let s = a.before.before.before in
-    let t = zero_text s.args.z s.ranges.z i.if1.true in
-    (rw t (put_then a.put_byte.ensures b.put-byte2.ensures), omega arith)
+    let t = zero_text c.args.z c.ranges.z c.if-z-eq0.true in
+    (rw t (put_then c.put_byte-a.ensures c.put_byte.ensures), omega arith)
 
-abbrev start : tie.Else1 → tie.Start
+abbrev start : tie.Else-z-eq0 → tie.Start
 start i = i.before.before.before.before.before.before
 
-fits : (i : tie.Else1) → SFits w64 (start i).args.z
+fits : (i : tie.Else-z-eq0) → SFits w64 (start i).args.z
 fits i = (start i).ranges.z
 
 -- what the test whether z is below 0 says
-below : (c : tie.Then2) → lt_z (start c.before).args.z (pos 0) ≡ true
-below c = rw (number_is _ (fits c.before)) at c.if2.true
+below : (c : tie.Then-z-lt0) → lt_z (start c.before).args.z (pos 0) ≡ true
+below c = rw (number_is _ (fits c.before)) at c.if-z-lt0.true
 
-from : (c : tie.Else2) → lt_z (start c.before).args.z (pos 0) ≡ false
-from c = rw (number_is _ (fits c.before)) at c.if2.false
+from : (c : tie.Else-z-lt0) → lt_z (start c.before).args.z (pos 0) ≡ false
+from c = rw (number_is _ (fits c.before)) at c.if-z-lt0.false
 
-sub_put_decimal : tie.Need-overflow-sub-put-decimal
+sub_put_decimal : tie.Need-overflow_sub-z
 sub_put_decimal c =
-    let i = c.before.before.before.before.before in gap_fits _ (fits i.before) (below i)
+    let i = c.before.before.before.before.before in gap_fits _ (fits c.before.before.before.before.before.before) (below i)
 
-cast_put_decimal : tie.Need-overflow-cast-put-decimal
+cast_put_decimal : tie.Need-overflow_cast-z
 cast_put_decimal c =
-    let i = c.before.before.before.before.before in gap_casts _ (fits i.before) (below i)
+    let i = c.before.before.before.before.before in gap_casts _ (fits c.before.before.before.before.before.before) (below i)
 
-add_put_decimal : tie.Need-overflow-add-put-decimal
+add_put_decimal : tie.Need-overflow_add-z
 add_put_decimal c =
     let i = c.before.before.before.before.before in
-    let f = fits i.before in
+    let f = fits c.before.before.before.before.before.before in
     rw (gap_sum _ f (below i)) (Fits-nat_abs {w = w64} tt f)
 
-returns_2 : tie.Need-returns-2
+returns_2 : tie.Need-returns-then-z-lt0
 returns_2 c =
-    let d = c.before.before in
-    let b = d.before.before.before.before in
-    let i = b.before.before in
-    let a = i.before.before.before.before in
-    let n = rw (gap_sum _ (fits i.before) (below i)) at d.put-decimal.ensures.0 in
-    let p = put_then a.put_byte.ensures (put_then b.put-byte3.ensures n) in
+    let i = c.before.before.before.before.before.before.before.before in
+    let n = rw (gap_sum _ (fits c.before.before.before.before.before.before.before.before.before) (below i)) at c.put_decimal.ensures.0 in
+    let p = put_then c.put_byte-a.ensures (put_then c.put_byte-b.ensures n) in
     (rw (below_text _ (below i)) p, omega arith)
 
-cast_put_decimal_2 : tie.Need-overflow-cast-put-decimal-2
+cast_put_decimal_2 : tie.Need-overflow_cast-z-2
 cast_put_decimal_2 c =
     let i = c.before in
-    let f = fits i.before in
-    let p = nonneg (start i.before).args.z (from i) in
+    let f = fits c.before.before in
+    let p = nonneg (start c.before.before).args.z (from i) in
     rw (number_is _ f) (p, Fits-nat_abs {w = w64} tt f)
 
-returns_3 : tie.Need-returns-3
+returns_3 : tie.Need-returns
 returns_3 c =
-    let d = c.before.before in
-    let i = d.before.before in
-    let a = i.before.before.before.before in
-    let n = rw (number_is _ (fits i.before)) at d.put-decimal2.ensures.0 in
-    (rw (from_text _ (from i)) (put_then a.put_byte.ensures n), omega arith)
+    let i = c.before.before.before.before in
+    let n = rw (number_is _ (fits c.before.before.before.before.before)) at c.put_decimal-2.ensures.0 in
+    (rw (from_text _ (from i)) (put_then c.put_byte-a.ensures n), omega arith)
 
 pub signed_field_spec : {M : Type 1} → statement M
 signed_field_spec =

@@ -11,5 +11,5 @@ unfolding acts
 binding_acts_spec =
     tie.close
     (tie.spec
-    (λ c. rw c.if-nonzero.true (ap not (zero_bits _ c.before.ranges.code)))
+    (λ c. rw c.if-nonzero.true (ap not (zero_bits _ c.ranges.code)))
     (λ c. search rules))

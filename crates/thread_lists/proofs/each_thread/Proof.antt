@@ -6,10 +6,10 @@ use borrow.Author.Rules.{rules}
 use Rattle.thread_lists.proofs.each_thread.Statement.{statement}
 use Rattle.thread_lists.proofs.each_thread.Tie as tie
 
-abbrev invariant_loop : tie.invariant-loop
+abbrev invariant_loop : tie.invariant-loop-i
 invariant_loop p each t₀ i₀ t i = Changed (each_in each p) t₀ t i
 
-abbrev decreases_loop : tie.decreases-loop
+abbrev decreases_loop : tie.decreases-loop-i
 decreases_loop p each t₀ i₀ t i = 128 - i
 
 pub each_thread_spec : {M : Type 1} → statement M
@@ -26,5 +26,5 @@ each_thread_spec =
     (λ c. search rules)
     (λ c. search rules)
     (λ c. search rules)
-    (λ c. (search rules, changed_next _ _ _ _ c.before.before.before.loop.invariant _ c.each_in.ensures))
-    (λ c. changed_all _ _ _ _ c.before.loop.invariant c.loop-test.false))
+    (λ c. (search rules, changed_next _ _ _ _ c.loop-i.invariant _ c.each_in-w.ensures))
+    (λ c. changed_all _ _ _ _ c.loop-i.invariant c.loop-i-test.false))

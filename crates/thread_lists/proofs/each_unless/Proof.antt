@@ -8,10 +8,10 @@ use Rattle.thread_lists.proofs.Unless.{Changing, begins, halts, goes_on_lem, pas
 use Rattle.thread_lists.proofs.each_unless.Statement.{statement}
 use Rattle.thread_lists.proofs.each_unless.Tie as tie
 
-abbrev invariant_loop : tie.invariant-loop
+abbrev invariant_loop : tie.invariant-loop-i
 invariant_loop p each threads₀ some₀ i₀ threads some i = Changing each p threads₀ threads some i
 
-abbrev decreases_loop : tie.decreases-loop
+abbrev decreases_loop : tie.decreases-loop-i
 decreases_loop p each threads₀ some₀ i₀ threads some i = 128 - i
 
 pub each_unless_spec : {M : Type 1} → statement M
@@ -27,33 +27,25 @@ each_unless_spec =
     (λ c κs. search rules)
     (λ c κs. search rules)
     (λ c.
-    let b = c.before.before in
-    let v = b.before.before.before in
-    let l = v.before.before in
     c.new.ensures
-    ∙ halts _ _ _ _ _ _ l.loop.invariant v.before.loop-test.true b.before.before.thread-of.ensures
-    b.before.if1.true b.bars.ensures c.before.if2.true)
+    ∙ halts _ _ _ _ _ _ c.loop-i.invariant c.loop-i-test.true c.thread_of.ensures
+    c.if-thread_of.true c.bars.ensures c.if-bars.true)
     (λ c κs. search rules)
     (λ c. search rules)
     (λ c. search rules)
     (λ c. search rules)
     (λ c. search rules)
-    (λ c.
-    let b = c.before.before in
-    let o = b.before.before in
-    let l = o.before.before.before in (
+    (λ c. (
       search (rules, length-set),
-      goes_on_lem _ _ _ _ _ _ l.loop.invariant o.before.before.loop-test.true o.thread-of.ensures
-          b.before.if1.true
-          b.bars.ensures c.before.if2.false c.one_of_lem.ensures,
+      goes_on_lem _ _ _ _ _ _ c.loop-i.invariant c.loop-i-test.true c.thread_of.ensures
+          c.if-thread_of.true
+          c.bars.ensures c.if-bars.false c.one_of.ensures,
     ))
     (λ c. search rules)
     (λ c. search rules)
-    (λ c.
-    let o = c.before in
-    let l = o.before.before.before in (
-      l.loop.invariant.0,
-      passes _ _ _ _ _ _ l.loop.invariant o.before.before.loop-test.true o.thread-of.ensures c.if1.false,
+    (λ c. (
+      c.loop-i.invariant.0,
+      passes _ _ _ _ _ _ c.loop-i.invariant c.loop-i-test.true c.thread_of.ensures c.if-thread_of.false,
     ))
     (λ c κs. search rules)
-    (λ c. c.new2.ensures ∙ ends _ _ _ _ _ _ c.before.before.loop.invariant c.before.loop-test.false))
+    (λ c. c.new-2.ensures ∙ ends _ _ _ _ _ _ c.loop-i.invariant c.loop-i-test.false))

@@ -5,10 +5,10 @@ use borrow.Author.Rules.{rules}
 use Rattle.thread_lists.proofs.lists_thread.Statement.{statement}
 use Rattle.thread_lists.proofs.lists_thread.Tie as tie
 
-abbrev invariant_loop : tie.invariant-loop
+abbrev invariant_loop : tie.invariant-loop-i
 invariant_loop p threads i₀ i = Searched (λ v. thread_of v p) threads 128 i
 
-abbrev decreases_loop : tie.decreases-loop
+abbrev decreases_loop : tie.decreases-loop-i
 decreases_loop p threads i₀ i = 128 - i
 
 pub lists_thread_spec : {M : Type 1} → statement M
@@ -22,15 +22,11 @@ lists_thread_spec =
     (λ c. search rules)
     (λ c κs. search rules)
     (λ c.
-    let b = c.before in
-    let l = b.before.before in
-    any_here _ _ _ _ l.before.loop.invariant no_thread l.loop-test.true b.thread-of.ensures c.if1.true)
+    any_here _ _ _ _ c.loop-i.invariant no_thread c.loop-i-test.true c.thread_of.ensures c.if-thread_of.true)
     (λ c. search rules)
     (λ c. search rules)
-    (λ c.
-    let b = c.before in
-    let l = b.before.before in (
+    (λ c. (
       search rules,
-      any_next _ _ _ _ l.before.loop.invariant no_thread l.loop-test.true b.thread-of.ensures c.if1.false,
+      any_next _ _ _ _ c.loop-i.invariant no_thread c.loop-i-test.true c.thread_of.ensures c.if-thread_of.false,
     ))
-    (λ c. any_none _ _ _ _ c.before.loop.invariant c.loop-test.false))
+    (λ c. any_none _ _ _ _ c.loop-i.invariant c.loop-i-test.false))

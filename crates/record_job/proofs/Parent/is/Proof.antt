@@ -8,5 +8,5 @@ is_spec =
     (tie.spec
     (λ c. search rules)
     (λ c. search rules)
-    (λ c. rw c.enum_told.given.1)
-    (λ c. rw c.before.self.given.1))
+    (λ c. rw c.in-Orphan.is)
+    (λ c. rw c.in-ChildOf.is))

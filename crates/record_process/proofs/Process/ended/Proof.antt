@@ -15,4 +15,4 @@ ended_spec =
     (λ c κs. search rules)
     (λ c.
     let got : SFits w64 c.code.result = record { sfits = c.code.type_inv } in
-    ap (ended_with c.before.args.self) (to_z-of_z {w = w64} got ∙ c.code.ensures)))
+    ap (ended_with c.args.self) (to_z-of_z {w = w64} got ∙ c.code.ensures)))

@@ -13,4 +13,4 @@ exception_spec =
     (λ c. search rules)
     (λ c. search rules)
     (λ c. search rules)
-    (λ c. sym (ap held_in c.before.waiting.given.1)))
+    (λ c. sym (ap held_in c.in-InException.is)))

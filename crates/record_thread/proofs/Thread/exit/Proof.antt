@@ -12,4 +12,4 @@ exit_spec =
     (λ c. search branches)
     (λ c. search branches)
     (λ c κs. search rules)
-    (λ c. rw c.without-exception.ensures (search branches)))
+    (λ c. rw c.without_exception-left.ensures (search branches)))

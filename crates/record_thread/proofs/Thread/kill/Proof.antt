@@ -11,4 +11,4 @@ kill_spec =
     (tie.spec
     (λ c. search branches)
     (λ c κs. search rules)
-    (λ c. rw c.without-exception.ensures (search branches)))
+    (λ c. rw c.without_exception-left.ensures (search branches)))

@@ -10,4 +10,4 @@ signals_spec =
     (tie.spec
     (λ c κs. search rules)
     (λ c κs. search rules)
-    (λ c. c.signals-of.ensures ∙ ap signals_of c.before.state.ensures))
+    (λ c. c.signals_of.ensures ∙ ap signals_of c.state.ensures))

@@ -12,12 +12,12 @@ process_in_spec =
     (tie.spec
     (λ c κs. search rules)
     (λ c.
-    let a = c.before.before.args in
-    let long : length a.t1 ≡ 64 = search length_mapped in
-    c.none.ensures ∙ read_past a.t1 a.name _ long c.before.if1.true)
+    let a = c.args in
+    let long : length a.processes ≡ 64 = search length_mapped in
+    c.none.ensures ∙ read_past a.processes a.name _ long c.if-i-ge64.true)
     (λ c. search rules)
     (λ c. search rules)
     (λ c.
-    let a = c.before.before.args in
-    let long : length a.t1 ≡ 64 = search length_mapped in
-    read_in a.t1 a.name _ _ long c.before.if1.false))
+    let a = c.args in
+    let long : length a.processes ≡ 64 = search length_mapped in
+    read_in a.processes a.name _ _ long c.if-i-ge64.false))

@@ -17,16 +17,12 @@ fresh_tables_spec =
     (λ c κs. search rules)
     (λ c κs. search rules)
     (λ c.
-    let d = c.before in
-    let e = d.before in
-    let f = e.before in
-    let g = f.before in
     simp (
-      c.none6.ensures,
-      d.none5.ensures,
-      e.none4.ensures,
-      f.none3.ensures,
-      g.none2.ensures,
-      g.before.root.ensures,
-      g.before.before.none.ensures,
+      c.none-4.ensures,
+      c.none-3.ensures,
+      c.none-2.ensures,
+      c.none.ensures,
+      c.none-policies.ensures,
+      c.root.ensures,
+      c.none-jobs.ensures,
     )))

@@ -14,6 +14,6 @@ showing_spec =
     tie.close
     (tie.spec
     (λ c.
-    let a = c.before.before.args in
+    let a = c.args in
     let fits : SFits w64 a.s.answer = search rules in
     ap (λ (z : ℤ). reply_with a.tables a.s.fields z a.s.policy) (to_z-of_z {w = w64} fits)))

@@ -13,5 +13,5 @@ with_fields_spec =
     (tie.spec
     (λ c κs. search rules)
     (λ c.
-    let a = c.before.args in
-    ap₂ (reply_with a.tables a.fields) (to_z-of_z {w = w64} c.before.ranges.answer) c.none.ensures))
+    let a = c.args in
+    ap₂ (reply_with a.tables a.fields) (to_z-of_z {w = w64} c.ranges.answer) c.none.ensures))

@@ -12,4 +12,4 @@ answered_spec =
     tie.close
     (tie.spec
     (λ c κs. search rules)
-    (λ c. ap₂ (shown NoFields) (to_z-of_z {w = w64} c.before.ranges.answer) c.none.ensures))
+    (λ c. ap₂ (shown NoFields) (to_z-of_z {w = w64} c.ranges.answer) c.none.ensures))

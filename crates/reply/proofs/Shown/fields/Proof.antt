@@ -10,4 +10,4 @@ fields_spec =
     tie.close
     (tie.spec
     (λ c κs. search rules)
-    (λ c. ap (shown c.before.args.fields (pos 0)) c.none.ensures))
+    (λ c. ap (shown c.args.fields (pos 0)) c.none.ensures))

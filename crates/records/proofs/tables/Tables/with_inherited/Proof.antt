@@ -16,6 +16,6 @@ with_inherited_spec =
     (λ c. search rules)
     (λ c. search rules)
     (λ c.
-    let a = c.before.args in
-    let long : length a.t1.inherited ≡ 32 = search length_mapped in
-    ap (with_inherited a.t1) (write_past a.t1.inherited a.name a.v long c.if1.false)))
+    let a = c.args in
+    let long : length a.self.inherited ≡ 32 = search length_mapped in
+    ap (with_inherited a.self) (write_past a.self.inherited a.name a.v long c.if-i-lt32.false)))

@@ -16,6 +16,6 @@ with_job_spec =
     (λ c. search rules)
     (λ c. search rules)
     (λ c.
-    let a = c.before.args in
-    let long : length a.t1.jobs ≡ 32 = search length_mapped in
-    ap (with_jobs a.t1) (write_past a.t1.jobs a.name a.v long c.if1.false)))
+    let a = c.args in
+    let long : length a.self.jobs ≡ 32 = search length_mapped in
+    ap (with_jobs a.self) (write_past a.self.jobs a.name a.v long c.if-i-lt32.false)))

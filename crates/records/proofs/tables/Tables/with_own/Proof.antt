@@ -16,6 +16,6 @@ with_own_spec =
     (λ c. search rules)
     (λ c. search rules)
     (λ c.
-    let a = c.before.args in
-    let long : length a.t1.own ≡ 32 = search length_mapped in
-    ap (with_own a.t1) (write_past a.t1.own a.name a.v long c.if1.false)))
+    let a = c.args in
+    let long : length a.self.own ≡ 32 = search length_mapped in
+    ap (with_own a.self) (write_past a.self.own a.name a.v long c.if-i-lt32.false)))

@@ -16,6 +16,6 @@ with_process_spec =
     (λ c. search rules)
     (λ c. search rules)
     (λ c.
-    let a = c.before.args in
-    let long : length a.t1.processes ≡ 64 = search length_mapped in
-    ap (with_processes a.t1) (write_past a.t1.processes a.name a.v long c.if1.false)))
+    let a = c.args in
+    let long : length a.self.processes ≡ 64 = search length_mapped in
+    ap (with_processes a.self) (write_past a.self.processes a.name a.v long c.if-i-lt64.false)))

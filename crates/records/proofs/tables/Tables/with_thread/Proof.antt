@@ -16,6 +16,6 @@ with_thread_spec =
     (λ c. search rules)
     (λ c. search rules)
     (λ c.
-    let a = c.before.args in
-    let long : length a.t1.threads ≡ 128 = search length_mapped in
-    ap (with_threads a.t1) (write_past a.t1.threads a.name a.v long c.if1.false)))
+    let a = c.args in
+    let long : length a.self.threads ≡ 128 = search length_mapped in
+    ap (with_threads a.self) (write_past a.self.threads a.name a.v long c.if-i-lt128.false)))
