@@ -44,8 +44,8 @@ use Rattle.calls.specs.Groups.{level_call, thread_call, process_call, job_move, 
 
 -- 12 and 13 at any level
 pub level_step : (c : ChannelCall) (t : Tables) (level n : ℕ) →
-    exceptionate.onLevel c t level n ≡ step t (level_call c level n)
-unfolding exceptionate.onLevel level_call step
+    exceptionate.on_level c t level n ≡ step t (level_call c level n)
+unfolding exceptionate.on_level level_call step
 level_step CreateChannel t level n = refl
 level_step HangUp t level n = refl
 
@@ -63,13 +63,13 @@ pub thread_arm : (t : Tables) (n : ℕ) {c d : ThreadCall} {m : of-threads.Move}
 thread_arm t n i e h = rw i (thread_moves t n e h)
 
 process_moves : (t : Tables) (p : ℕ) {m : of-processes.Move} {r : Exiting} {x : Reply} →
-    r ≡ process.exiting m.process m.answer false → process.moved t p m ≡ x → process.exitedIn t p r ≡ x
-unfolding process.moved process.exitedIn if◌then◌else◌
+    r ≡ process.exiting m.process m.answer false → process.moved t p m ≡ x → process.exited_in t p r ≡ x
+unfolding process.moved process.exited_in if◌then◌else◌
 process_moves t p e h = rw e h
 
 pub process_arm : (t : Tables) (p j : ℕ) {c d : ProcessCall} {m : of-processes.Move} {r : Exiting} → c ≡ d →
     r ≡ process.exiting m.process m.answer false → process.moved t p m ≡ step t (process_call d p j) →
-    process.exitedIn t p r ≡ step t (process_call c p j)
+    process.exited_in t p r ≡ step t (process_call c p j)
 process_arm t p j i e h = rw i (process_moves t p e h)
 
 -- ---- A job beside its own policy -----------------------------------------------------------------------
@@ -80,9 +80,9 @@ unfolding own_at put_job
 own_after t n v h = own_kept (put_job t n v) n h
 
 pub job_kills : (t : Tables) (n : ℕ) {m : Killing} {own : JobPolicy} {r : JobMove} {x : Reply} →
-    r ≡ job_move m.job own m.kills m.answer → own_at t (n % 32) ≡ own → job.killedIn t n m ≡ x →
+    r ≡ job_move m.job own m.kills m.answer → own_at t (n % 32) ≡ own → job.killed_in t n m ≡ x →
     job_moved t n r ≡ x
-unfolding job.killedIn job_moved
+unfolding job.killed_in job_moved
 job_kills t n {m} e o h = rw (e, own_after t (n % 32) m.job o) h
 
 pub job_sets : (t : Tables) (n : ℕ) {m : of-jobs.Move} {r : JobMove} {x : Reply} →
@@ -91,9 +91,9 @@ unfolding job.moved job_moved if◌then◌else◌
 job_sets t n e h = rw e h
 
 pub job_moves : (t : Tables) (n : ℕ) {m : of-levels.JobMove} {own : JobPolicy} {r : JobMove} {x : Reply} →
-    r ≡ job_move m.job own false m.answer → own_at t (n % 32) ≡ own → exceptionate.movedJob t n m ≡ x →
+    r ≡ job_move m.job own false m.answer → own_at t (n % 32) ≡ own → exceptionate.moved_job t n m ≡ x →
     job_moved t n r ≡ x
-unfolding exceptionate.movedJob job_moved if◌then◌else◌
+unfolding exceptionate.moved_job job_moved if◌then◌else◌
 job_moves t n {m} e o h = rw (e, own_after t (n % 32) m.job o) h
 
 -- ---- A task beside a token -----------------------------------------------------------------------------

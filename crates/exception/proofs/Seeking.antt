@@ -118,10 +118,10 @@ module _ (n : ℕ) where
 
 -- what a stage means over the tables
 unfoldable pub from_stage : Stage → Bool → Tables → ℕ → Search
-from_stage FromDebugger second u n = model.fromDebugger u n second
-from_stage FromThread second u n = model.fromThread u n second
-from_stage FromProcess second u n = model.fromProcess u n second
-from_stage FromSecondChance second u n = model.fromSecondChance u n second
+from_stage FromDebugger second u n = model.from_debugger u n second
+from_stage FromThread second u n = model.from_thread u n second
+from_stage FromProcess second u n = model.from_process u n second
+from_stage FromSecondChance second u n = model.from_second_chance u n second
 from_stage (FromJob d j) second u n = search_up 32 (job_place d) u n j
 from_stage DebuggerAlone second u n = try_at u n Debugger no_handler
 from_stage ExitingAlone second u n = try_at u n Exiting no_handler
@@ -167,35 +167,35 @@ module _ (t : Tables) (z : Sized t) (n : ℕ) (h : n < 128) where
         }
 
   second_sound : (v : Thread) (q : Process) (f : Fits v.process q) (b : Bool) →
-      Sound t n v.process (model.fromSecondChance (stored t n v q) n b) (from_second_chance v q b)
-  unfolding model.fromSecondChance model.fromJobs from_second_chance if◌then◌else◌ level_at pass_over put_level_at sent
+      Sound t n v.process (model.from_second_chance (stored t n v q) n b) (from_second_chance v q b)
+  unfolding model.from_second_chance model.from_jobs from_second_chance if◌then◌else◌ level_at pass_over put_level_at sent
   second_sound v q f true =
-      sound_try (stored t n v q) _ SecondChance (λ u. model.fromJobs u n) (level1_there t z n h v q f)
+      sound_try (stored t n v q) _ SecondChance (λ u. model.from_jobs u n) (level1_there t z n h v q f)
       (pass_level1 t z n h v q f) (ends v q f (To SecondChance))
       (jobs_sound v (with_level1 q (tried q.level1)) (fits_level1 f) false)
   second_sound v q f false = jobs_sound v q f false
 
   process_sound : (v : Thread) (q : Process) (f : Fits v.process q) (b : Bool) →
-      Sound t n v.process (model.fromProcess (stored t n v q) n b) (from_process v q b)
-  unfolding model.fromProcess from_process sent
+      Sound t n v.process (model.from_process (stored t n v q) n b) (from_process v q b)
+  unfolding model.from_process from_process sent
   process_sound v q f b =
-      sound_try (stored t n v q) _ OwnProcess (λ u. model.fromSecondChance u n b) (level3_there t z n h v q f)
+      sound_try (stored t n v q) _ OwnProcess (λ u. model.from_second_chance u n b) (level3_there t z n h v q f)
       (pass_level3 t z n h v q f) (ends v q f (To OwnProcess))
       (second_sound v (with_level3 q (tried q.level3)) (fits_level3 f) b)
 
   thread_sound : (v : Thread) (q : Process) (f : Fits v.process q) (b : Bool) →
-      Sound t n v.process (model.fromThread (stored t n v q) n b) (from_thread v q b)
-  unfolding model.fromThread from_thread sent
+      Sound t n v.process (model.from_thread (stored t n v q) n b) (from_thread v q b)
+  unfolding model.from_thread from_thread sent
   thread_sound v q f b =
-      sound_try (stored t n v q) _ OwnThread (λ u. model.fromProcess u n b) (level2_there t z n h v q f)
+      sound_try (stored t n v q) _ OwnThread (λ u. model.from_process u n b) (level2_there t z n h v q f)
       (pass_level2 t z n h v q f) (ends v q f (To OwnThread))
       (process_sound (with_level2 v (tried v.level2)) q f b)
 
   debugger_sound : (v : Thread) (q : Process) (f : Fits v.process q) (b : Bool) →
-      Sound t n v.process (model.fromDebugger (stored t n v q) n b) (from_debugger v q b)
-  unfolding model.fromDebugger from_debugger sent
+      Sound t n v.process (model.from_debugger (stored t n v q) n b) (from_debugger v q b)
+  unfolding model.from_debugger from_debugger sent
   debugger_sound v q f b =
-      sound_try (stored t n v q) _ Debugger (λ u. model.fromThread u n b) (level1_there t z n h v q f)
+      sound_try (stored t n v q) _ Debugger (λ u. model.from_thread u n b) (level1_there t z n h v q f)
       (pass_level1 t z n h v q f) (ends v q f (To Debugger))
       (thread_sound v (with_level1 q (tried q.level1)) (fits_level1 f) b)
 
@@ -279,8 +279,8 @@ module _ (t : Tables) (n : ℕ) {q : Process} (e : process_at t (process_of t n)
   own_jobs : (d : Bool) → search_up 32 (job_place d) t n (own_job t n) ≡ search_up 32 (job_place d) t n q.job
   own_jobs d = ap (λ (x : Process). search_up 32 (job_place d) t n x.job) e
 
-  pub first_is : (r : Route) → is_to_exiting r ≡ false → model.firstHandler r t n ≡ from_stage (first_stage r q) false t n
-  unfolding model.firstHandler first_stage from_stage
+  pub first_is : (r : Route) → is_to_exiting r ≡ false → model.first_handler r t n ≡ from_stage (first_stage r q) false t n
+  unfolding model.first_handler first_stage from_stage
   first_is Ordinary x = refl
   first_is JobDebuggers x = own_jobs true
   first_is DebuggerOnly x = refl
@@ -288,12 +288,12 @@ module _ (t : Tables) (n : ℕ) {q : Process} (e : process_at t (process_of t n)
   first_is NoType x = refl
 
   after_is : (kind : ℕ) (b : Bool) →
-      if kind =? 0x8008 then no_handler t else model.fromThread t n b ≡ from_stage (after_debugger kind) b t n
+      if kind =? 0x8008 then no_handler t else model.from_thread t n b ≡ from_stage (after_debugger kind) b t n
   unfolding after_debugger if◌then◌else◌ from_stage
   after_is kind b = go (kind =? 0x8008)
     where
       go : (a : Bool) →
-          if a then no_handler t else model.fromThread t n b ≡ from_stage (if a then NobodyLeft else FromThread) b t n
+          if a then no_handler t else model.from_thread t n b ≡ from_stage (if a then NobodyLeft else FromThread) b t n
       go true = refl
       go false = refl
 
@@ -305,8 +305,8 @@ module _ (t : Tables) (n : ℕ) {q : Process} (e : process_at t (process_of t n)
   above_is (ChildOf i) b = refl
 
   pub next_is : (p : Place) (x : Exception) →
-      model.nextHandler p t n x ≡ from_stage (next_stage p x q t.jobs) x.second t n
-  unfolding model.nextHandler model.fromJobs next_stage from_stage above_stage job_at
+      model.next_handler p t n x ≡ from_stage (next_stage p x q t.jobs) x.second t n
+  unfolding model.next_handler model.from_jobs next_stage from_stage above_stage job_at
   next_is Debugger x = after_is x.kind x.second
   next_is OwnThread x = refl
   next_is OwnProcess x = refl

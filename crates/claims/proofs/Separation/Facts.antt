@@ -56,9 +56,12 @@ free_alive v h =
     (and_right v.started (not (v.state =? DEAD)) (and_left (is_live v) (is_idle v) h))
 
 module _ {t : Tables} (T : Tree t) where
+  runs_at : (d j : ℕ) → AtOrAbove t d j → (job_at t j).terminated ≡ false → (job_at t d).terminated ≡ false
+  runs_at d j here h = h
+  runs_at d j (below {p = p} e a) h = runs_at d p a (T.parent_alive j p (T.job_listed j p e h) e)
+
   runs : (j : ℕ) → (job_at t j).terminated ≡ false → RunsUp t j
-  runs j h d here = h
-  runs j h d (below {p = p} e a) = runs p (T.parent_alive j p (T.job_listed j p e h) e) d a
+  runs j h d a = runs_at d j a h
 
   module _ (n : ℕ) (m : (thread_at t n).made ≡ true) where
     own_runs : ((thread_at t n).state =? DEAD) ≡ false → RunsUp t (own_job t n)

@@ -12,5 +12,5 @@ above_stage_spec =
     (tie.spec
     (λ c. search rules)
     (λ c. search rules)
-    (λ c. no_parent _ _ c.enum_told.given.1 refl)
-    (λ c. with_parent _ _ c.before.parent.given.1 refl))
+    (λ c. no_parent _ _ c.in-Orphan.is refl)
+    (λ c. with_parent _ _ c.in-ChildOf.is refl))

@@ -16,5 +16,5 @@ alone_spec =
     (λ c κs. search rules)
     (λ c κs. search rules)
     (λ c.
-    let e = simp (c.before.with-level1.ensures, c.before.before.tried.ensures) at c.new2.ensures in
+    let e = simp (c.with_level1.ensures, c.tried.ensures) at c.new-2.ensures in
     search (branches, e)))

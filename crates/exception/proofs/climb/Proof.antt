@@ -9,11 +9,11 @@ use borrow.Author.Rules.{rules}
 use Rattle.exception.proofs.climb.Statement.{statement}
 use Rattle.exception.proofs.climb.Tie as tie
 
-abbrev invariant_loop : tie.invariant-loop
+abbrev invariant_loop : tie.invariant-loop-step
 invariant_loop debugger job jobs₀ at₀ step₀ jobs at step =
     (climbing (32 - step) debugger jobs at ≡ climbing 32 debugger jobs₀ at₀) × (step ≤ 32) × (length jobs ≡ 32)
 
-abbrev decreases_loop : tie.decreases-loop
+abbrev decreases_loop : tie.decreases-loop-step
 decreases_loop debugger job jobs₀ at₀ step₀ jobs at step = 32 - step
 
 pub climb_spec : {M : Type 1} → statement M
@@ -24,10 +24,10 @@ climb_spec =
     decreases_loop
     (λ c. (refl, omega arith, search length_mapped))
     (λ c.
-    let l = c.before.before.loop in
+    let l = c.loop-step in
     let n : ℕ = 32 - (l.step + 1) in
     let s : suc n ≡ 32 - l.step = omega arith in
-    up_past n _ s _ _ _ l.invariant.2 c.if1.true ∙ l.invariant.0)
+    up_past n _ s _ _ _ l.invariant.2 c.if-at-ge32.true ∙ l.invariant.0)
     (λ c. search rules)
     (λ c. search rules)
     (λ c. search rules)
@@ -35,49 +35,37 @@ climb_spec =
     (λ c κs. search rules)
     (λ c κs. search rules)
     (λ c.
-    let b = c.before.before in
-    let v = b.before.before in
-    let i = v.before in
-    let l = i.before.before.loop in
+    let l = c.loop-step in
     let n : ℕ = 32 - (l.step + 1) in
     let s : suc n ≡ 32 - l.step = omega arith in
-    up_bound n _ s _ _ _ b.before.job-level.ensures b.is_bound.ensures c.before.if2.true
-    c.job-place.ensures
+    up_bound n _ s _ _ _ c.job_level.ensures c.is_bound.ensures c.if-is_bound.true
+    c.job_place.ensures
     ∙ l.invariant.0)
     (λ c κs. search rules)
     (λ c. search rules)
     (λ c. search rules)
     (λ c. search rules)
     (λ c.
-    let w = c.before.before in
-    let b = w.before.before in
-    let v = b.before.before in
-    let i = v.before in
-    let l = i.before.before.loop in
+    let l = c.loop-step in
     let n : ℕ = 32 - (l.step + 1) in
     let s : suc n ≡ 32 - l.step = omega arith in
-    up_orphan n _ s _ _ _ b.before.job-level.ensures b.is_bound.ensures w.before.if2.false
-    w.passed.ensures l.invariant.2 i.if1.false c.enum_told.given.1
+    up_orphan n _ s _ _ _ c.job_level.ensures c.is_bound.ensures c.if-is_bound.false
+    c.passed-w.ensures l.invariant.2 c.if-at-ge32.false c.in-Orphan.is
     ∙ l.invariant.0)
     (λ c. search rules)
     (λ c. omega arith)
     (λ c. omega arith)
     (λ c.
-    let p = c.before in
-    let w = p.before.before in
-    let b = w.before.before in
-    let v = b.before.before in
-    let i = v.before in
-    let l = i.before.before.loop in
+    let l = c.loop-step in
     let n : ℕ = 32 - (l.step + 1) in
     let s : suc n ≡ 32 - l.step = omega arith in (
-      up_goes n _ s _ _ _ b.before.job-level.ensures b.is_bound.ensures w.before.if2.false
-          w.passed.ensures l.invariant.2 i.if1.false p.parent.given.1
+      up_goes n _ s _ _ _ c.job_level.ensures c.is_bound.ensures c.if-is_bound.false
+          c.passed-w.ensures l.invariant.2 c.if-at-ge32.false c.in-ChildOf.is
           ∙ l.invariant.0,
       omega arith,
       simp length-set l.invariant.2,
     ))
     (λ c.
-    let l = c.before.loop in
+    let l = c.loop-step in
     let e : 0 ≡ 32 - l.step = omega arith in
     up_out _ _ _ _ e ∙ l.invariant.0))

@@ -29,15 +29,9 @@ close_spec =
     (λ c κs. search rules)
     (λ c κs. search rules)
     (λ c t z a b d.
-    let r = c.before in
-    let o = r.before in
-    let y = o.before.before in
-    let x = y.before.before in
-    let w = x.before.before in
-    let f = w.before.before in
-    let h = f.before.if1.false in
+    let h = c.if-thread-ge128.false in
     passes _ _ _ (lt-leb _ _ h)
-    (the_thread t _ _ (thread_looked_up_at t _ f.found.ensures h a) w.w.given.1
-    (the_exception t _ _ x.exception.ensures y.e.given.1
+    (the_thread t _ _ (thread_looked_up_at t _ c.found.ensures h a) c.in-OldThread.is
+    (the_exception t _ _ c.exception.ensures c.in-Held.is
     (accepts t
-    (closed_is t z _ h a b d o.own-process.ensures _ c.kept.ensures _ r.close-held.ensures))))))
+    (closed_is t z _ h a b d c.own_process-own.ensures _ c.kept.ensures _ c.close_held.ensures))))))

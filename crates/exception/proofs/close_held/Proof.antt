@@ -13,11 +13,11 @@ close_held_spec =
     (λ c κs. search rules)
     (λ c κs. search rules)
     (λ c.
-    let e = simp c.before.end-wait.ensures at c.shown.ensures in
+    let e = simp c.end_wait.ensures at c.shown.ensures in
     search (branches, e))
     (λ c κs. search rules)
     (λ c κs. search rules)
     (λ c κs. search rules)
     (λ c.
-    let e = simp (c.before.search.ensures, c.before.before.next-stage.ensures) at c.deliver.ensures in
+    let e = simp (c.search-f.ensures, c.next_stage.ensures) at c.deliver.ensures in
     search (branches, e)))

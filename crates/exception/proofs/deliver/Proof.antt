@@ -12,5 +12,5 @@ deliver_spec =
     (λ c κs. search rules)
     (λ c. search rules)
     (λ c κs. search rules)
-    (λ c. rw c.before.enum_told.given.1 c.unheard.ensures)
-    (λ c. rw c.before.before.at.given.1 c.waits-at.ensures))
+    (λ c. rw c.in-Nobody.is c.unheard.ensures)
+    (λ c. rw c.in-HandlerAt.is c.waits_at.ensures))

@@ -12,12 +12,12 @@ exits_to_spec =
     (λ c. search rules)
     (λ c. search rules)
     (λ c κs. search rules)
-    (λ c. rw c.before.enum_told.given.1 c.shown.ensures)
+    (λ c. rw c.in_default.is c.shown.ensures)
     (λ c κs. search rules)
-    (λ c. rw c.before.before.before.at.given.1 (search branches))
+    (λ c. rw c.in-HandlerAt.is (search branches))
     (λ c κs. search rules)
     (λ c κs. search rules)
     (λ c κs. search rules)
     (λ c.
-    let e = simp (c.before.waits.ensures, c.before.before.at2.ensures) at c.shown3.ensures in
-    rw c.before.before.before.before.before.at.given.1 (search (branches, e))))
+    let e = simp (c.waits-w.ensures, c.at-e.ensures) at c.shown-2.ensures in
+    rw c.in-HandlerAt.is (search (branches, e))))

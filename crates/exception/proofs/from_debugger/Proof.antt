@@ -16,5 +16,5 @@ from_debugger_spec =
     (λ c κs. search rules)
     (λ c κs. search rules)
     (λ c.
-    let e = simp (c.before.with-level1.ensures, c.before.before.tried.ensures) at c.from-thread.ensures in
+    let e = simp (c.with_level1.ensures, c.tried.ensures) at c.from_thread.ensures in
     search (branches, e)))

@@ -16,6 +16,6 @@ from_process_spec =
     (λ c κs. search rules)
     (λ c κs. search rules)
     (λ c.
-    let r = c.from-second-chance.ensures in
-    let e = simp (c.before.with-level3.ensures, c.before.before.tried.ensures) at r in
+    let r = c.from_second_chance.ensures in
+    let e = simp (c.with_level3.ensures, c.tried.ensures) at r in
     search (branches, e)))

@@ -16,5 +16,5 @@ from_thread_spec =
     (λ c κs. search rules)
     (λ c κs. search rules)
     (λ c.
-    let e = simp (c.before.with-level2.ensures, c.before.before.tried.ensures) at c.from-process.ensures in
+    let e = simp (c.with_level2.ensures, c.tried.ensures) at c.from_process.ensures in
     search (branches, e)))

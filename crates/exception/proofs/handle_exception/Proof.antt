@@ -1,5 +1,7 @@
+use mathlib.Core.Bool.{not}
+use mathlib.Core.Path.{ap}
 use borrow.Author.Tests.{lt-leb}
-use Rattle.laws.proofs.Flow.{passes, told_not}
+use Rattle.laws.proofs.Flow.{passes, told}
 use Rattle.records.proofs.Kept.{thread_looked_up_at}
 use Rattle.model.specs.ExceptionCalls.{raise_exception}
 use Rattle.model.proofs.Answering.{accepts, the_thread}
@@ -31,17 +33,11 @@ handle_exception_spec =
     (λ c κs. search rules)
     (λ c κs. search rules)
     (λ c t z a b d.
-    let r = c.before in
-    let o = r.before in
-    let f = o.before in
-    let w = f.before.before.before in
-    let g = w.before.before in
-    let l = g.before.before in
-    let h = g.before.if2.false in
-    let k = l.before.before.route-of.ensures in
-    passes _ _ _ (route_told _ l.before.is-no-type.ensures l.if1.false k)
+    let h = c.if-thread-ge128.false in
+    let k = c.route_of-route.ensures in
+    passes _ _ _ (route_told _ c.is_no_type.ensures c.if-is_no_type.false k)
     (passes _ _ _ (lt-leb _ _ h)
-    (the_thread t _ _ (thread_looked_up_at t _ g.found.ensures h a) w.w.given.1
-    (passes _ _ _ (told_not f.before.is_free.ensures f.if3.false)
+    (the_thread t _ _ (thread_looked_up_at t _ c.found.ensures h a) c.in-OldThread.is
+    (passes _ _ _ (ap not (told c.is_free.ensures c.if-not-is_free.false))
     (accepts t
-    (raised_is t z _ h a b d o.own-process.ensures _ c.kept.ensures _ k r.raise.ensures)))))))
+    (raised_is t z _ h a b d c.own_process-own.ensures _ c.kept.ensures _ k c.raise.ensures)))))))

@@ -10,5 +10,5 @@ is_live_spec =
     tie.close
     (tie.spec
     (λ c κs. search rules)
-    (λ c. and_goes _ c.before.if1.true (rw c.is-exited.ensures))
+    (λ c. and_goes _ c.if-q.true (rw c.is_exited.ensures))
     (λ c. search branches))

@@ -5,5 +5,5 @@ pub job_place_spec : {M : Type 1} → statement M
 job_place_spec =
     tie.close
     (tie.spec
-    (λ c. rw c.if1.true)
-    (λ c. rw c.if1.false))
+    (λ c. rw c.if-debugger.true)
+    (λ c. rw c.if-debugger.false))

@@ -18,12 +18,12 @@ next_stage_spec =
     (λ c κs. search rules)
     (λ c. search rules)
     (λ c. search rules)
-    (λ c. rw c.before.enum_told.given.1 c.after-debugger.ensures)
-    (λ c. rw c.enum-told2.given.1)
-    (λ c. rw c.enum-told3.given.1)
-    (λ c. rw c.enum-told4.given.1)
+    (λ c. rw c.in-Debugger.is c.after_debugger.ensures)
+    (λ c. rw c.in-OwnThread.is)
+    (λ c. rw c.in-OwnProcess.is)
+    (λ c. rw c.in-SecondChance.is)
     (λ c.
-    rw c.before.before.before.place.given.1
-    (simp c.before.job-in.ensures at c.above-stage.ensures))
-    (λ c. rw c.enum-told5.given.1)
-    (λ c. rw c.enum-told6.given.1))
+    rw c.in-OfJob.is
+    (simp c.job_in.ensures at c.above_stage.ensures))
+    (λ c. rw c.in-OfJobDebugger.is)
+    (λ c. rw c.in-Exiting.is))

@@ -8,7 +8,7 @@ passed_spec =
     (tie.spec
     (λ c κs. search rules)
     (λ c κs. search rules)
-    (λ c. rw (c.with-level5.ensures, c.before.tried.ensures, c.before.before.if1.true))
+    (λ c. rw (c.with_level5.ensures, c.tried.ensures, c.if-debugger.true))
     (λ c κs. search rules)
     (λ c κs. search rules)
-    (λ c. rw (c.with-level4.ensures, c.before.tried2.ensures, c.before.before.if1.false)))
+    (λ c. rw (c.with_level4.ensures, c.tried-2.ensures, c.if-debugger.false)))

@@ -16,11 +16,9 @@ raise_spec =
     (λ c κs. search rules)
     (λ c κs. search rules)
     (λ c.
-    let s = c.before.before in
-    let e = simp (s.search.ensures, s.before.first-stage.ensures) at c.exits-to.ensures in
+    let e = simp (c.search-f.ensures, c.first_stage.ensures) at c.exits_to.ensures in
     search (branches, e))
     (λ c κs. search rules)
     (λ c.
-    let s = c.before.before in
-    let e = simp (s.search.ensures, s.before.first-stage.ensures) at c.deliver.ensures in
+    let e = simp (c.search-f.ensures, c.first_stage.ensures) at c.deliver.ensures in
     search (branches, e)))

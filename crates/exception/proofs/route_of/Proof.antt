@@ -9,19 +9,19 @@ unfolding route_of is_hardware if◌then◌else◌ ◌or◌
 route_of_spec =
     tie.close
     (tie.spec
-    (λ c. rw c.match.keys1)
-    (λ c. rw c.match.keys2)
-    (λ c. rw c.match.keys3)
-    (λ c. rw c.match.keys4)
-    (λ c. rw c.match.keys5)
-    (λ c. rw c.match.keys6)
-    (λ c. rw c.match.keys7)
-    (λ c. rw c.match.keys8)
-    (λ c. rw c.match.keys9)
-    (λ c. rw c.match.keys10)
-    (λ c. rw c.match.keys11)
+    (λ c. rw c.in-8.is)
+    (λ c. rw c.in-264.is)
+    (λ c. rw c.in-520.is)
+    (λ c. rw c.in-776.is)
+    (λ c. rw c.in-1032.is)
+    (λ c. rw c.in-1288.is)
+    (λ c. rw c.in-32768.is)
+    (λ c. rw c.in-33288.is)
+    (λ c. rw c.in-33544.is)
+    (λ c. rw c.in-32776.is)
+    (λ c. rw c.in-33032.is)
     (λ c.
-    let r = c.match.rest in
+    let r = c.in_default.in_default-own.rest in
     no_type _ r.0.0.0.0.0.0.0.0.0.0.1 r.0.0.0.0.0.0.0.0.0.1 r.0.0.0.0.0.0.0.0.1
     r.0.0.0.0.0.0.0.1 r.0.0.0.0.0.0.1 r.0.0.0.0.0.1 r.0.0.0.0.1 r.0.0.0.1
     r.0.0.1 r.0.1 r.1))

@@ -10,4 +10,4 @@ search_spec =
     (tie.spec
     (λ c κs. search rules)
     (λ c κs. search rules)
-    (λ c. simp c.before.seek.ensures at c.onward.ensures))
+    (λ c. simp c.seek.ensures at c.onward.ensures))

@@ -1,5 +1,7 @@
+use mathlib.Core.Bool.{not}
+use mathlib.Core.Path.{ap}
 use borrow.Author.Tests.{lt-leb}
-use Rattle.laws.proofs.Flow.{branches, second, told_not}
+use Rattle.laws.proofs.Flow.{branches, second, told}
 use Rattle.exception.specs.Raise.{unheard}
 use borrow.Author.Rules.{rules}
 use Rattle.exception.proofs.unheard.Statement.{statement}
@@ -13,17 +15,15 @@ unheard_spec =
     (λ c κs. search rules)
     (λ c κs. search rules)
     (λ c.
-    let e = simp c.before.before.end-wait.ensures at c.shown.ensures in
+    let e = simp c.end_wait-w.ensures at c.shown.ensures in
     search (branches, e))
     (λ c κs. search rules)
     (λ c κs. search rules)
     (λ c.
-    let e = simp c.before.before.before.before.end-wait.ensures at c.shown2.ensures in
+    let e = simp c.end_wait-w.ensures at c.shown-then-not-is_live.ensures in
     search (branches, e))
     (λ c κs. search rules)
     (λ c.
-    let l = c.before.before in
-    let n = l.before in
-    second _ _ (lt-leb _ _ n.if1.false)
-    (second _ _ (told_not l.is_live.ensures c.before.if2.false)
-    (rw (c.with-status.ensures, n.before.end-wait.ensures)))))
+    second _ _ (lt-leb _ _ c.if-kind-ge-SYNTH.false)
+    (second _ _ (ap not (told c.is_live.ensures c.if-not-is_live.false))
+    (rw (c.with_status-marked.ensures, c.end_wait-w.ensures)))))

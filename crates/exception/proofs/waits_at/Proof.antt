@@ -32,13 +32,10 @@ waits_at_spec =
     (λ c κs. search rules)
     (λ c κs. search rules)
     (λ c.
-    let o = c.before in
-    let l = o.before in
-    let x = l.before in
     simp (
-      o.owner-in.ensures,
-      l.level.ensures,
+      c.owner_in.ensures,
+      c.level.ensures,
       as_answer,
-      x.waits.ensures,
-      x.before.at.ensures,
+      c.waits-w.ensures,
+      c.at-e.ensures,
     ) at c.shown.ensures))

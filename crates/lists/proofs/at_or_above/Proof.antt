@@ -19,11 +19,11 @@ read : (t : Tables) {jobs : List Job} (n : ℕ) {v : Job} → t.jobs ≡ jobs �
 unfolding job_at
 read t n h e = rw h e
 
-abbrev invariant_loop : tie.invariant-loop
+abbrev invariant_loop : tie.invariant-loop-step
 invariant_loop jobs j i at₀ step₀ at step =
     ((t : Tables) → t.jobs ≡ jobs → is_above (32 - step) t j at ≡ is_above 32 t j at₀) × (step ≤ 32)
 
-abbrev decreases_loop : tie.decreases-loop
+abbrev decreases_loop : tie.decreases-loop-step
 decreases_loop jobs j i at₀ step₀ at step = 32 - step
 
 pub at_or_above_spec : {M : Type 1} → statement M
@@ -34,32 +34,31 @@ at_or_above_spec =
     decreases_loop
     (λ c. ((λ t h. refl), search rules))
     (λ c t h.
-    let l = c.before.before.loop in
+    let l = c.loop-step in
     let n : ℕ = 32 - (l.step + 1) in
     let e : suc n ≡ 32 - l.step = omega arith in
-    above_here n _ e _ _ _ (eq-eqb _ _ c.if1.true) ∙ l.invariant.0 t h)
+    above_here n _ e _ _ _ (eq-eqb _ _ c.if-at-j.true) ∙ l.invariant.0 t h)
     (λ c κs. search rules)
     (λ c. search rules)
     (λ c. search rules)
     (λ c t h.
-    let l = c.before.before.before.before.before.loop in
+    let l = c.loop-step in
     let n : ℕ = 32 - (l.step + 1) in
     let e : suc n ≡ 32 - l.step = omega arith in
-    above_orphan n _ e _ _ _ (ne_eqb _ _ c.before.before.before.if1.false) _
-    (read t _ h c.before.before.job-in.ensures) c.enum_told.given.1 ∙ l.invariant.0 t h)
+    above_orphan n _ e _ _ _ (ne_eqb _ _ c.if-at-j.false) _
+    (read t _ h c.job_in-job.ensures) c.in_default.is ∙ l.invariant.0 t h)
     (λ c. search rules)
     (λ c. search rules)
     (λ c.
-    let l = c.before.before.before.before.before.before.loop in
+    let l = c.loop-step in
     let n : ℕ = 32 - (l.step + 1) in
-    let e : suc n ≡ 32 - l.step = omega arith in
-    let p = c.before in (
+    let e : suc n ≡ 32 - l.step = omega arith in (
       (λ t h.
-          above_goes n _ e _ _ _ (ne_eqb _ _ p.before.before.before.if1.false) _
-          (read t _ h p.before.before.job-in.ensures) _ p.parent.given.1 ∙ l.invariant.0 t h),
+          above_goes n _ e _ _ _ (ne_eqb _ _ c.if-at-j.false) _
+          (read t _ h c.job_in-job.ensures) _ c.in-ChildOf.is ∙ l.invariant.0 t h),
       search rules,
     ))
     (λ c t h.
-    let l = c.before.loop in
+    let l = c.loop-step in
     let e : 0 ≡ 32 - l.step = omega arith in
     above_out _ _ _ _ e ∙ l.invariant.0 t h))

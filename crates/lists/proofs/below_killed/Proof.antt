@@ -14,5 +14,5 @@ below_killed_spec =
     (λ c. search rules)
     (λ c κs. search rules)
     (λ c.
-    ap (λ (v : Job). v.killed) c.job-in.ensures
-    ∙ ap (below_killed _) (sym c.before.before.parent.given.1)))
+    ap (λ (v : Job). v.killed) c.job_in.ensures
+    ∙ ap (below_killed _) (sym c.in-ChildOf.is)))

@@ -10,11 +10,11 @@ use borrow.Author.Rules.{rules}
 use Rattle.lists.proofs.child_from.Statement.{statement}
 use Rattle.lists.proofs.child_from.Tie as tie
 
-abbrev invariant_loop : tie.invariant-loop
+abbrev invariant_loop : tie.invariant-loop-i
 invariant_loop j from jobs i₀ i =
     (length jobs ≡ 32) × (next (λ v. child_of v j) jobs i ≡ next (λ v. child_of v j) jobs from) × (i ≤ 255)
 
-abbrev decreases_loop : tie.decreases-loop
+abbrev decreases_loop : tie.decreases-loop-i
 decreases_loop j from jobs i₀ i = 32 - i
 
 pub child_from_spec : {M : Type 1} → statement M
@@ -29,21 +29,17 @@ child_from_spec =
     (λ c κs. search rules)
     (λ c. search rules)
     (λ c.
-    let b = c.before in
-    let l = b.before.before in
-    let i = l.before.loop.invariant in
-    next_here _ _ _ no_job (omega (arith, i.0, l.loop-test.true)) b.child-of.ensures c.if1.true ∙ i.1)
+    let i = c.loop-i.invariant in
+    next_here _ _ _ no_job (omega (arith, i.0, c.loop-i-test.true)) c.child_of.ensures c.if-child_of.true ∙ i.1)
     (λ c. search rules)
     (λ c. search rules)
     (λ c.
-    let b = c.before in
-    let l = b.before.before in
-    let i = l.before.loop.invariant in (
+    let i = c.loop-i.invariant in (
       i.0,
-      next_on _ _ _ no_job (omega (arith, i.0, l.loop-test.true)) b.child-of.ensures c.if1.false ∙ i.1,
+      next_on _ _ _ no_job (omega (arith, i.0, c.loop-i-test.true)) c.child_of.ensures c.if-child_of.false ∙ i.1,
       search rules,
     ))
     (λ c. search rules)
     (λ c.
-    let i = c.before.loop.invariant in
-    next_end _ _ _ (omega (arith, i.0, c.loop-test.false)) ∙ i.1))
+    let i = c.loop-i.invariant in
+    next_end _ _ _ (omega (arith, i.0, c.loop-i-test.false)) ∙ i.1))

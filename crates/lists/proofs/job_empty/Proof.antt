@@ -10,9 +10,8 @@ job_empty_spec =
     tie.close
     (tie.spec
     (λ c κs. search rules)
-    (λ c. and_stops _ (not_no (told c.before.lists-child.ensures c.if1.true)))
+    (λ c. and_stops _ (not_no (told c.lists_child.ensures c.if-lists_child.true)))
     (λ c κs. search rules)
     (λ c.
-    let b = c.before in
-    and_goes _ (not_yes (told b.before.lists-child.ensures b.if1.false))
-    (ap not c.lists-process.ensures)))
+    and_goes _ (not_yes (told c.lists_child.ensures c.if-lists_child.false))
+    (ap not c.lists_process.ensures)))

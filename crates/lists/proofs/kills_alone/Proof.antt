@@ -1,7 +1,6 @@
 use mathlib.Core.Path.{ap, sym, ◌∙◌}
 use mathlib.Core.Bool.{not}
 use borrow.Author.Rules.{rules}
-use borrow.Author.Tests.{not-true, not-false}
 use Rattle.laws.proofs.Flow.{and_stops, and_goes}
 use Rattle.lists.specs.Alone.{kills_alone}
 use Rattle.lists.proofs.kills_alone.Statement.{statement}
@@ -13,10 +12,9 @@ kills_alone_spec =
     tie.close
     (tie.spec
     (λ c κs. search rules)
-    (λ c. and_stops _ (sym c.before.job-empty.ensures ∙ not-true _ c.if1.true))
+    (λ c. and_stops _ (sym c.job_empty.ensures ∙ c.if-not-job_empty.true))
     (λ c κs. search rules)
     (λ c κs. search rules)
     (λ c.
-    let e = c.before.before in
-    let b = simp c.before.job-in.ensures at c.below-killed.ensures in
-    and_goes _ (sym e.before.job-empty.ensures ∙ not-false _ e.if1.false) (ap not b)))
+    let b = simp c.job_in-v.ensures at c.below_killed.ensures in
+    and_goes _ (sym c.job_empty.ensures ∙ c.if-not-job_empty.false) (ap not b)))

@@ -5,10 +5,10 @@ use borrow.Author.Rules.{rules}
 use Rattle.lists.proofs.lists_child.Statement.{statement}
 use Rattle.lists.proofs.lists_child.Tie as tie
 
-abbrev invariant_loop : tie.invariant-loop
+abbrev invariant_loop : tie.invariant-loop-i
 invariant_loop j jobs i₀ i = Searched (λ v. child_of v j) jobs 32 i
 
-abbrev decreases_loop : tie.decreases-loop
+abbrev decreases_loop : tie.decreases-loop-i
 decreases_loop j jobs i₀ i = 32 - i
 
 pub lists_child_spec : {M : Type 1} → statement M
@@ -22,15 +22,11 @@ lists_child_spec =
     (λ c. search rules)
     (λ c κs. search rules)
     (λ c.
-    let b = c.before in
-    let l = b.before.before in
-    any_here _ _ _ _ l.before.loop.invariant no_job l.loop-test.true b.child-of.ensures c.if1.true)
+    any_here _ _ _ _ c.loop-i.invariant no_job c.loop-i-test.true c.child_of.ensures c.if-child_of.true)
     (λ c. search rules)
     (λ c. search rules)
-    (λ c.
-    let b = c.before in
-    let l = b.before.before in (
+    (λ c. (
       search rules,
-      any_next _ _ _ _ l.before.loop.invariant no_job l.loop-test.true b.child-of.ensures c.if1.false,
+      any_next _ _ _ _ c.loop-i.invariant no_job c.loop-i-test.true c.child_of.ensures c.if-child_of.false,
     ))
-    (λ c. any_none _ _ _ _ c.before.loop.invariant c.loop-test.false))
+    (λ c. any_none _ _ _ _ c.loop-i.invariant c.loop-i-test.false))

@@ -5,10 +5,10 @@ use borrow.Author.Rules.{rules}
 use Rattle.lists.proofs.lists_process.Statement.{statement}
 use Rattle.lists.proofs.lists_process.Tie as tie
 
-abbrev invariant_loop : tie.invariant-loop
+abbrev invariant_loop : tie.invariant-loop-i
 invariant_loop j processes i₀ i = Searched (λ v. member_of v j) processes 64 i
 
-abbrev decreases_loop : tie.decreases-loop
+abbrev decreases_loop : tie.decreases-loop-i
 decreases_loop j processes i₀ i = 64 - i
 
 pub lists_process_spec : {M : Type 1} → statement M
@@ -22,15 +22,11 @@ lists_process_spec =
     (λ c. search rules)
     (λ c κs. search rules)
     (λ c.
-    let b = c.before in
-    let l = b.before.before in
-    any_here _ _ _ _ l.before.loop.invariant no_process l.loop-test.true b.member_of.ensures c.if1.true)
+    any_here _ _ _ _ c.loop-i.invariant no_process c.loop-i-test.true c.member_of.ensures c.if-member_of.true)
     (λ c. search rules)
     (λ c. search rules)
-    (λ c.
-    let b = c.before in
-    let l = b.before.before in (
+    (λ c. (
       search rules,
-      any_next _ _ _ _ l.before.loop.invariant no_process l.loop-test.true b.member_of.ensures c.if1.false,
+      any_next _ _ _ _ c.loop-i.invariant no_process c.loop-i-test.true c.member_of.ensures c.if-member_of.false,
     ))
-    (λ c. any_none _ _ _ _ c.before.loop.invariant c.loop-test.false))
+    (λ c. any_none _ _ _ _ c.loop-i.invariant c.loop-i-test.false))

@@ -10,12 +10,12 @@ use borrow.Author.Rules.{rules}
 use Rattle.lists.proofs.process_from.Statement.{statement}
 use Rattle.lists.proofs.process_from.Tie as tie
 
-abbrev invariant_loop : tie.invariant-loop
+abbrev invariant_loop : tie.invariant-loop-i
 invariant_loop j from processes i₀ i =
     (length processes ≡ 64) × (next (λ v. member_of v j) processes i ≡ next (λ v. member_of v j) processes from) ×
     (i ≤ 255)
 
-abbrev decreases_loop : tie.decreases-loop
+abbrev decreases_loop : tie.decreases-loop-i
 decreases_loop j from processes i₀ i = 64 - i
 
 pub process_from_spec : {M : Type 1} → statement M
@@ -30,21 +30,17 @@ process_from_spec =
     (λ c κs. search rules)
     (λ c. search rules)
     (λ c.
-    let b = c.before in
-    let l = b.before.before in
-    let i = l.before.loop.invariant in
-    next_here _ _ _ no_process (omega (arith, i.0, l.loop-test.true)) b.member_of.ensures c.if1.true ∙ i.1)
+    let i = c.loop-i.invariant in
+    next_here _ _ _ no_process (omega (arith, i.0, c.loop-i-test.true)) c.member_of.ensures c.if-member_of.true ∙ i.1)
     (λ c. search rules)
     (λ c. search rules)
     (λ c.
-    let b = c.before in
-    let l = b.before.before in
-    let i = l.before.loop.invariant in (
+    let i = c.loop-i.invariant in (
       i.0,
-      next_on _ _ _ no_process (omega (arith, i.0, l.loop-test.true)) b.member_of.ensures c.if1.false ∙ i.1,
+      next_on _ _ _ no_process (omega (arith, i.0, c.loop-i-test.true)) c.member_of.ensures c.if-member_of.false ∙ i.1,
       search rules,
     ))
     (λ c. search rules)
     (λ c.
-    let i = c.before.loop.invariant in
-    next_end _ _ _ (omega (arith, i.0, c.loop-test.false)) ∙ i.1))
+    let i = c.loop-i.invariant in
+    next_end _ _ _ (omega (arith, i.0, c.loop-i-test.false)) ∙ i.1))

@@ -491,7 +491,7 @@ loop_again_15 c =
 
 -- a job made
 loop_again_16 : tie.Need-loop-preserved-16 invariant_loop decreases_loop
-unfolding answered reply call_of perform step jobs.madeIn put_job put_inherited
+unfolding answered reply call_of perform step jobs.made_in put_job put_inherited
 loop_again_16 c =
     let k = c.before.before.before.before.before.before.before.before.before.before.before.before.before.before.before.before in
     let z = (loop k).loop.inv.0 in
@@ -508,7 +508,7 @@ loop_again_16 c =
 
 -- a process made
 loop_again_17 : tie.Need-loop-preserved-17 invariant_loop decreases_loop
-unfolding answered reply call_of perform step processes.madeIn put_process put_fixed
+unfolding answered reply call_of perform step processes.made_in put_process put_fixed
 loop_again_17 c =
     let k = c.before.before.before.before.before.before.before.before.before.before.before.before.before.before.before.before in
     let z = (loop k).loop.inv.0 in

@@ -17,26 +17,25 @@ use Rattle.suspend_token.proofs.create.Statement.{statement}
 use Rattle.suspend_token.proofs.create.Tie as tie
 
 -- past the test of the counts: where the call began, and the names within their tables
-abbrev began : tie.After-some-at → tie.Start
-began c = c.before.before.before.before.before.before.before.before.before.before
+abbrev began : tie.After-some_at → tie.Start
+began c = c.before.before.before.before.before.before.before.before.before
 
-bound : (c : tie.After-some-at) → (began c).args.name < tasks_of (began c).args.kind
+bound : (c : tie.After-some_at) → (began c).args.name < tasks_of (began c).args.kind
 bound c =
-    let e = c.before.before.before.before.before.before in
-    rw e.before.tasks-of.ensures at e.if3.false
+    rw c.tasks_of.ensures at c.if-tasks_of-name.false
 
-new_bound : (c : tie.After-some-at) → (began c).args.new < 64
-new_bound c = c.before.before.before.before.before.before.before.before.if2.false
+new_bound : (c : tie.After-some_at) → (began c).args.new < 64
+new_bound c = c.if-new-ge64.false
 
-module _ (c : tie.After-some-at) {x : Reply} (t : Tables) (o : token_at t ((began c).args.new % 64) ≡ (began c).args.k)
+module _ (c : tie.After-some_at) {x : Reply} (t : Tables) (o : token_at t ((began c).args.new % 64) ≡ (began c).args.k)
     (h : Concerned t (began c).args.kind (began c).args.name 65535 (began c).args.v (began c).args.q
     (began c).args.j (began c).args.barred) where
   barred : c.some_at.result ≡ true → x ≡ answered t (pos 107) →
       x ≡ create_token_call t (began c).args.new (began c).args.kind (began c).args.name
   unfolding create_token_call
   barred b e =
-      let g = task_found t _ _ 65535 h (bound c) c.before.before.before.before.before.found-task.ensures in
-      let s = some_is t _ _ 65535 h (bound c) (ne_eqb _ _ c.before.if5.false) c.some_at.ensures in
+      let g = task_found t _ _ 65535 h (bound c) c.found_task.ensures in
+      let s = some_is t _ _ 65535 h (bound c) (ne_eqb _ _ c.if-kind-eq-JOB.false) c.some_at.ensures in
       search (moving, g, s) depth 20
 
   accepted : c.some_at.result ≡ false →
@@ -44,21 +43,20 @@ module _ (c : tie.After-some-at) {x : Reply} (t : Tables) (o : token_at t ((bega
       x ≡ create_token_call t (began c).args.new (began c).args.kind (began c).args.name
   unfolding create_token_call
   accepted b e =
-      let g = task_found t _ _ 65535 h (bound c) c.before.before.before.before.before.found-task.ensures in
-      let s = some_is t _ _ 65535 h (bound c) (ne_eqb _ _ c.before.if5.false) c.some_at.ensures in
+      let g = task_found t _ _ 65535 h (bound c) c.found_task.ensures in
+      let s = some_is t _ _ 65535 h (bound c) (ne_eqb _ _ c.if-kind-eq-JOB.false) c.some_at.ensures in
       search (moving, g, s) depth 20
 
 -- a job: the Rust panics
-panics : (c : tie.Then5) {x : Reply} (t : Tables) →
-    (let b = c.before.before.before.before.before.before.before.before.before in
-    Concerned t b.args.kind b.args.name 65535 b.args.v b.args.q b.args.j b.args.barred →
-    token_at t (b.args.new % 64) ≡ b.args.k → x ≡ answered t (pos 106) →
-    x ≡ create_token_call t b.args.new b.args.kind b.args.name)
+panics : (c : tie.Then-kind-eq-JOB) {x : Reply} (t : Tables) →
+    (
+    Concerned t c.args.kind c.args.name 65535 c.args.v c.args.q c.args.j c.args.barred →
+    token_at t (c.args.new % 64) ≡ c.args.k → x ≡ answered t (pos 106) →
+    x ≡ create_token_call t c.args.new c.args.kind c.args.name)
 unfolding create_token_call
 panics c t h o e =
-    let f = c.before.before.before.before in
-    let l = rw f.before.before.tasks-of.ensures at f.before.if3.false in
-    let g = task_found t _ _ 65535 h l f.found-task.ensures in
+    let l = rw c.tasks_of.ensures at c.if-tasks_of-name.false in
+    let g = task_found t _ _ 65535 h l c.found_task.ensures in
     search (moving, g) depth 20
 
 pub create_spec : {M : Type 1} → statement M
@@ -78,33 +76,31 @@ create_spec =
     (λ c. search rules)
     (λ c κs. search rules)
     (λ c t o h.
-    let f = c.before.before.before in
-    let l = rw f.before.before.tasks-of.ensures at f.before.if3.false in
-    let g = task_found t _ _ 65535 h l f.found-task.ensures in
+    let l = rw c.tasks_of.ensures at c.if-tasks_of-name.false in
+    let g = task_found t _ _ 65535 h l c.found_task.ensures in
     let v = h.0 in
     search (moving, g, v) depth 20)
     (λ c κs. search rules)
     (λ c t o h.
-    let f = c.before.before.before.before in
-    let l = rw f.before.before.tasks-of.ensures at f.before.if3.false in
-    let g = task_found t _ _ 65535 h l f.found-task.ensures in
+    let l = rw c.tasks_of.ensures at c.if-tasks_of-name.false in
+    let g = task_found t _ _ 65535 h l c.found_task.ensures in
     let v = h.0 in
     search (moving, g, v) depth 20)
     (λ c κs. search rules)
     (λ c t o h.
-    panics c.before t h o (token_stays _ t _ _ _ _ c.refused6.ensures o h.0))
+    panics c.before t h o (token_stays _ t _ _ _ _ c.refused-then-kind-eq-JOB.ensures o h.0))
     (λ c κs. search rules)
     (λ c κs. search rules)
     (λ c t o h.
-    barred c.before.before t o h c.before.if6.true (token_stays _ t _ _ _ _ c.refused7.ensures o h.0))
+    barred c.before.before t o h c.if-some_at.true (token_stays _ t _ _ _ _ c.refused-then-some_at.ensures o h.0))
     (λ c κs. search rules)
     (λ c κs. search rules)
     (λ c κs. search rules)
     (λ c t o h.
     let s = c.before.before.before.before in
-    let l = within t _ _ 65535 h (bound s) (ne_eqb _ _ s.before.if5.false) in
-    let k = simp c.before.before.new.ensures at c.new2.ensures in
-    accepted s t o h c.before.before.before.if6.false
-    (creates t _ _ h.0 l (unbarred t _ _ 65535 h (bound s) s.some_at.ensures
-    c.before.before.before.if6.false) _
-    c.before.suspended.ensures k (new_bound s))))
+    let l = within t _ _ 65535 h (bound s) (ne_eqb _ _ c.if-kind-eq-JOB.false) in
+    let k = simp c.new.ensures at c.new-2.ensures in
+    accepted s t o h c.if-some_at.false
+    (creates t _ _ h.0 l (unbarred t _ _ 65535 h (bound s) c.some_at.ensures
+    c.if-some_at.false) _
+    c.suspended.ensures k (new_bound s))))

@@ -21,39 +21,37 @@ use Rattle.suspend_token.proofs.drop.Statement.{statement}
 use Rattle.suspend_token.proofs.drop.Tie as tie
 
 -- past the test of the counts: where the call began
-abbrev began : tie.After-none-at → tie.Start
-began c = c.before.before.before.before.before.before
+abbrev began : tie.After-none_at → tie.Start
+began c = c.before.before.before.before
 
-abbrev it : tie.After-none-at → SuspendToken
+abbrev it : tie.After-none_at → SuspendToken
 it c = (began c).args.k
 
 -- the test is of the record given, which is the token found
-tested : (c : tie.After-none-at) → c.none-at.result ≡ none_in (it c) (began c).args.v (began c).args.barred
+tested : (c : tie.After-none_at) → c.none_at.result ≡ none_in (it c) (began c).args.v (began c).args.barred
 tested c =
-    let w = c.before.before in
-    let is = token_is w.before.before.found.ensures w.w.given.1 in
-    c.none-at.ensures ∙ ap (λ (k : SuspendToken). none_in k (began c).args.v (began c).args.barred) (sym is)
+    let is = token_is c.found.ensures c.in-OldToken.is in
+    c.none_at.ensures ∙ ap (λ (k : SuspendToken). none_in k (began c).args.v (began c).args.barred) (sym is)
 
-module _ (c : tie.After-none-at) (t : Tables) (z : length t.threads ≡ 128)
+module _ (c : tie.After-none_at) (t : Tables) (z : length t.threads ≡ 128)
     (o : token_at t ((began c).args.token % 64) ≡ it c) (h : thread_at t ((it c).name % 128) ≡ (began c).args.v)
     (g : (it c).kind ≡ PROCESS → any (has_count (it c).name 0) t.threads ≡ (began c).args.barred) where
   -- the definition's lookup finds the same token, and its test is that of the counts
   looked_up : found_token t (began c).args.token ≡ OldToken (it c)
   looked_up =
-      let w = c.before.before in
-      let f = w.before.before.found.ensures in
-      let is = token_is f w.w.given.1 in
-      sym (token_looked_up_at t _ f w.before.before.before.if1.false o) ∙ w.w.given.1 ∙ ap OldToken (sym is)
+      let f = c.found.ensures in
+      let is = token_is f c.in-OldToken.is in
+      sym (token_looked_up_at t _ f c.if-token-ge64.false o) ∙ c.in-OldToken.is ∙ ap OldToken (sym is)
 
-  counts : c.none-at.result ≡ some_at t (it c).kind (it c).name 0
+  counts : c.none_at.result ≡ some_at t (it c).kind (it c).name 0
   counts = none_is t (it c) h g z (tested c)
 
-  barred : {x : Reply} → c.none-at.result ≡ true → x ≡ answered t (pos 106) →
+  barred : {x : Reply} → c.none_at.result ≡ true → x ≡ answered t (pos 106) →
       x ≡ drop_token_call t (began c).args.token
   unfolding drop_token_call
   barred b e = let f = looked_up in let s = counts in search (moving, f, s) depth 20
 
-  accepted : {x : Reply} → c.none-at.result ≡ false →
+  accepted : {x : Reply} → c.none_at.result ≡ false →
       x ≡ answered (drop_token t (began c).args.token (it c).kind (it c).name) (pos 0) →
       x ≡ drop_token_call t (began c).args.token
   unfolding drop_token_call
@@ -74,17 +72,16 @@ drop_spec =
     (λ c κs. search rules)
     (λ c κs. search rules)
     (λ c t z o h g.
-    barred c.before.before t z o h g c.before.if2.true (token_stays _ t _ _ _ _ c.refused3.ensures o h))
+    barred c.before.before t z o h g c.if-none_at.true (token_stays _ t _ _ _ _ c.refused-then-none_at.ensures o h))
     (λ c κs. search rules)
     (λ c κs. search rules)
     (λ c κs. search rules)
     (λ c t z o h g.
     let s = c.before.before.before.before in
-    let w = s.before.before in
-    let is = token_is w.before.before.found.ensures w.w.given.1 in
-    let u = sym (tested s) ∙ c.before.before.before.if2.false in
+    let is = token_is c.found.ensures c.in-OldToken.is in
+    let u = sym (tested s) ∙ c.if-none_at.false in
     let l = named t (it s) h g u in
-    accepted s t z o h g c.before.before.before.if2.false
+    accepted s t z o h g c.if-none_at.false
     (drops t _ _ h l (none_unbarred t (it s) h g u) _
-    (c.before.resumed.ensures ∙ ap (λ (k : SuspendToken). resumed_in k.kind (began s).args.v) (sym is))
-    (simp c.before.before.drop.ensures at c.new.ensures) w.before.before.before.if1.false (o ∙ is))))
+    (c.resumed.ensures ∙ ap (λ (k : SuspendToken). resumed_in k.kind (began s).args.v) (sym is))
+    (simp c.drop.ensures at c.new.ensures) c.if-token-ge64.false (o ∙ is))))

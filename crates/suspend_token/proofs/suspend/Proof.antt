@@ -16,23 +16,22 @@ use Rattle.suspend_token.proofs.suspend.Statement.{statement}
 use Rattle.suspend_token.proofs.suspend.Tie as tie
 
 -- past the test of the counts: where the call began, and the name within its table
-abbrev began : tie.After-some-at → tie.Start
-began c = c.before.before.before.before.before.before.before.before
+abbrev began : tie.After-some_at → tie.Start
+began c = c.before.before.before.before.before.before.before
 
-bound : (c : tie.After-some-at) → (began c).args.name < tasks_of (began c).args.kind
+bound : (c : tie.After-some_at) → (began c).args.name < tasks_of (began c).args.kind
 bound c =
-    let e = c.before.before.before.before.before in
-    rw e.before.tasks-of.ensures at e.if2.false
+    rw c.tasks_of.ensures at c.if-tasks_of-name.false
 
-module _ (c : tie.After-some-at) {x : Reply} (t : Tables)
+module _ (c : tie.After-some_at) {x : Reply} (t : Tables)
     (h : Concerned t (began c).args.kind (began c).args.name 65535 (began c).args.v (began c).args.q
     (began c).args.j (began c).args.barred) where
   barred : c.some_at.result ≡ true → x ≡ answered t (pos 107) →
       x ≡ suspend_call t (began c).args.kind (began c).args.name
   unfolding suspend_call
   barred b e =
-      let g = task_found t _ _ 65535 h (bound c) c.before.before.before.before.found-task.ensures in
-      let s = some_is t _ _ 65535 h (bound c) (ne_eqb _ _ c.before.if3.false) c.some_at.ensures in
+      let g = task_found t _ _ 65535 h (bound c) c.found_task.ensures in
+      let s = some_is t _ _ 65535 h (bound c) (ne_eqb _ _ c.if-kind-eq-JOB.false) c.some_at.ensures in
       search (moving, g, s) depth 20
 
   accepted : c.some_at.result ≡ false →
@@ -40,8 +39,8 @@ module _ (c : tie.After-some-at) {x : Reply} (t : Tables)
       x ≡ suspend_call t (began c).args.kind (began c).args.name
   unfolding suspend_call
   accepted b e =
-      let g = task_found t _ _ 65535 h (bound c) c.before.before.before.before.found-task.ensures in
-      let s = some_is t _ _ 65535 h (bound c) (ne_eqb _ _ c.before.if3.false) c.some_at.ensures in
+      let g = task_found t _ _ 65535 h (bound c) c.found_task.ensures in
+      let s = some_is t _ _ 65535 h (bound c) (ne_eqb _ _ c.if-kind-eq-JOB.false) c.some_at.ensures in
       search (moving, g, s) depth 20
 
 pub suspend_spec : {M : Type 1} → statement M
@@ -59,25 +58,22 @@ suspend_spec =
     (λ c. search rules)
     (λ c κs. search rules)
     (λ c t h.
-    let f = c.before.before.before in
-    let l = rw f.before.before.tasks-of.ensures at f.before.if2.false in
-    let g = task_found t _ _ 65535 h l f.found-task.ensures in
+    let l = rw c.tasks_of.ensures at c.if-tasks_of-name.false in
+    let g = task_found t _ _ 65535 h l c.found_task.ensures in
     let v = h.0 in
     search (moving, g, v) depth 20)
     (λ c κs. search rules)
     (λ c t h.
-    let f = c.before.before.before.before in
-    let l = rw f.before.before.tasks-of.ensures at f.before.if2.false in
-    let g = task_found t _ _ 65535 h l f.found-task.ensures in
+    let l = rw c.tasks_of.ensures at c.if-tasks_of-name.false in
+    let g = task_found t _ _ 65535 h l c.found_task.ensures in
     let v = h.0 in
     search (moving, g, v) depth 20)
     (λ c κs. search rules)
     (λ c κs. search rules)
-    (λ c t h. barred c.before.before t h c.before.if4.true (stays _ t _ _ _ c.new5.ensures h.0))
+    (λ c t h. barred c.before.before t h c.if-some_at.true (stays _ t _ _ _ c.new-then-some_at.ensures h.0))
     (λ c κs. search rules)
     (λ c t h.
     let s = c.before.before in
-    let e = s.before in
-    accepted s t h c.before.if4.false (suspends t _ _ h.0
-    (within t _ _ 65535 h (bound s) (ne_eqb _ _ e.if3.false))
-    (unbarred t _ _ 65535 h (bound s) s.some_at.ensures c.before.if4.false) c.suspended.ensures)))
+    accepted s t h c.if-some_at.false (suspends t _ _ h.0
+    (within t _ _ 65535 h (bound s) (ne_eqb _ _ c.if-kind-eq-JOB.false))
+    (unbarred t _ _ 65535 h (bound s) c.some_at.ensures c.if-some_at.false) c.suspended.ensures)))

@@ -13,9 +13,9 @@ use borrow.Author.Rules.{rules}
 use Rattle.thread.proofs.begin_wait.Statement.{statement}
 use Rattle.thread.proofs.begin_wait.Tie as tie
 
-past : (c : tie.Else4) (t : Tables) {m : Move} →
-    let a = c.before.before.before.before.before.before.before.before.before.before.before.args in
-    let w = c.before.before.before.before.before.w.given.0.0 in
+past : (c : tie.Else-w-eq-DYING) (t : Tables) {m : Move} →
+    let a = c.args in
+    let w = c.in-OldThread.w in
     thread_at t (slot a.thread) ≡ a.v → m ≡ move (waits w a.state InWait) (pos 0) →
     moved t a.thread m ≡ begin_wait t a.thread a.state
 unfolding begin_wait wait_begun
@@ -43,4 +43,4 @@ begin_wait_spec =
     (λ c t h. search (moving, first) depth 20)
     (λ c κs. search rules)
     (λ c κs. search rules)
-    (λ c t h. past c.before.before t h (simp c.before.waits.ensures at c.new6.ensures)))
+    (λ c t h. past c.before.before t h (simp c.waits.ensures at c.new-2.ensures)))

@@ -26,5 +26,5 @@ create_with_ext_spec =
     (λ c κs. search rules)
     (λ c κs. search rules)
     (λ c t h k.
-    let e = simp c.before.new6.ensures at c.new7.ensures in
+    let e = simp c.new-2.ensures at c.new-3.ensures in
     search (pairs, e) depth 20))

@@ -22,5 +22,5 @@ exit_spec =
     (λ c κs. search rules)
     (λ c κs. search rules)
     (λ c t h.
-    let e = simp c.before.exit.ensures at c.new4.ensures in
+    let e = simp c.exit.ensures at c.new-2.ensures in
     search (moving, e) depth 20))

@@ -21,8 +21,6 @@ finish_spec =
     (λ c t h. search moving depth 20)
     (λ c κs. search rules)
     (λ c t h.
-    let w = c.before.before.before.before in
-    let f = w.before.before in
-    let is = thread_is f.found.ensures w.w.given.1 in
-    let e = finishes t _ f.before.if1.false h (c.finish.ensures ∙ ap finish (sym is)) in
+    let is = thread_is c.found.ensures c.in-OldThread.is in
+    let e = finishes t _ c.if-thread-ge128.false h (c.finish.ensures ∙ ap finish (sym is)) in
     search (moving, e) depth 20))

@@ -20,5 +20,5 @@ get_thread_info_spec =
     (λ c κs. search rules)
     (λ c κs. search rules)
     (λ c t h.
-    let f = simp (c.before.waiting-level.ensures, c.before.before.state.ensures) at c.fields.ensures in
+    let f = simp (c.waiting_level.ensures, c.state.ensures) at c.fields.ensures in
     search (moving, f) depth 20))

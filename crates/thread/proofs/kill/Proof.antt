@@ -19,5 +19,5 @@ kill_spec =
     (λ c κs. search rules)
     (λ c κs. search rules)
     (λ c t h.
-    let e = simp c.before.kill.ensures at c.new3.ensures in
+    let e = simp c.kill.ensures at c.new-2.ensures in
     search (moving, e) depth 20))

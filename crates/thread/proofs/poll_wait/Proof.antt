@@ -16,9 +16,9 @@ use borrow.Author.Rules.{rules}
 use Rattle.thread.proofs.poll_wait.Statement.{statement}
 use Rattle.thread.proofs.poll_wait.Tie as tie
 
-past : (c : tie.Else4) (t : Tables) {m : Move} →
-    let a = c.before.before.before.before.before.before.before.before.before.before.args in
-    let w = c.before.before.before.before.before.w.given.0.0 in
+past : (c : tie.Else-is_pending) (t : Tables) {m : Move} →
+    let a = c.args in
+    let w = c.in-OldThread.w in
     thread_at t (slot a.thread) ≡ a.v → m ≡ move (end_wait w) (wait_answer w a.ready) →
     moved t a.thread m ≡ poll_wait t a.thread a.ready
 unfolding poll_wait wait_polled
@@ -49,6 +49,6 @@ poll_wait_spec =
     (λ c κs. search rules)
     (λ c t h.
     let w = c.before in
-    let got : SFits w64 w.wait-answer.result = record { sfits = w.wait-answer.type-inv } in
-    let a = simp (to_z-of_z {w = w64} got) at c.new6.ensures in
-    past w.before.before t h (simp (w.wait-answer.ensures, w.before.end-wait.ensures) at a)))
+    let got : SFits w64 c.wait_answer.result = record { sfits = c.wait_answer.type_inv } in
+    let a = simp (to_z-of_z {w = w64} got) at c.new-2.ensures in
+    past c.before.before.before t h (simp (c.wait_answer.ensures, c.end_wait.ensures) at a)))

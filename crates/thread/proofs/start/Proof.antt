@@ -21,5 +21,5 @@ start_spec =
     (λ c κs. search rules)
     (λ c κs. search rules)
     (λ c t h.
-    let e = simp c.before.start.ensures at c.new4.ensures in
+    let e = simp c.start.ensures at c.new-2.ensures in
     search (moving, e) depth 20))

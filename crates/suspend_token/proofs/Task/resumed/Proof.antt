@@ -13,4 +13,4 @@ resumed_spec =
     (λ c. search branches)
     (λ c κs. search rules)
     (λ c κs. search rules)
-    (λ c. let e = simp c.before.resume.ensures at c.new2.ensures in search (branches, e)))
+    (λ c. let e = simp c.resume.ensures at c.new-2.ensures in search (branches, e)))

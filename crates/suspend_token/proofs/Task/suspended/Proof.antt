@@ -13,4 +13,4 @@ suspended_spec =
     (λ c. search branches)
     (λ c κs. search rules)
     (λ c κs. search rules)
-    (λ c. let e = simp c.before.suspend.ensures at c.new2.ensures in search (branches, e)))
+    (λ c. let e = simp c.suspend.ensures at c.new-2.ensures in search (branches, e)))

@@ -11,5 +11,5 @@ refused_spec =
     (λ c κs. search rules)
     (λ c κs. search rules)
     (λ c.
-    let m = simp (to_z-of_z {w = w64} c.before.before.ranges.answer) at c.before.new.ensures in
-    simp m at c.new2.ensures))
+    let m = simp (to_z-of_z {w = w64} c.ranges.answer) at c.new.ensures in
+    simp m at c.new-2.ensures))
