@@ -27,6 +27,7 @@ use Rattle.reply.specs.Reply.{answered}
 use Rattle.records.specs.Tables.{own_at, inherited_at}
 use Rattle.model.specs.JobCalls.{set_policy_basic}
 use Rattle.model.specs.JobPolicy.{bad_entry, Setting, setting, set_each, set_policy}
+use Rattle.job_policy.specs.Policy.{apply}
 use Rattle.job.specs.declared.policy.Work.{Work}
 use Rattle.job.specs.Work.{start_work, begin_work, enter_work, step_work, finish_work}
 use Rattle.job.specs.Work.{after_each, setting_of, answer_with}
@@ -108,7 +109,7 @@ pass_is w (b ∷ l) r g =
     (λ s.
     if_on P _ _ _ (λ o. yes _ _ s (yes _ _ o (halts _ l refl)))
     (λ o. yes _ _ s (no _ _ o (pass_is w l r good))))
-    (λ s. no _ _ s (pass_is _ l r good))))
+    (λ s. no _ _ s (pass_is (record w { own = apply w.own b }) l r good))))
 
 -- ---- The answer --------------------------------------------------------------------------------
 

@@ -156,21 +156,21 @@ asked nonzero code z e f g h = told (e ∙ ap (acts nonzero) (to_z-of_z {w = w64
 -- ---- Exiting a process ---------------------------------------------------------------------
 
 exit_marked : (m : ℕ)
-    (c : exit-process-lts.After-with-process (exit_process_claims m) (exit_process_at m)
+    (c : exit-process-lts.After-with_process (exit_process_claims m) (exit_process_at m)
     exit-process.Post)
     → Exiting c.before.before.before.before.before.args.t
     c.before.before.before.before.before.args.p
     c.before.before.before.before.before.args.code
-    c.with-process.result
+    c.with_process.result
 exit_marked m c =
     let q = c.before.before.before in
-    let v = q.before.process-at in
+    let v = q.before.process_at in
     exiting _ _ _ _ _ _ v.ensures
-    (told q.is-live-process.ensures (not-false _ c.before.before.if1.false))
-    (c.before.with-status.ensures
+    (told q.is_live_process.ensures (not-false _ c.before.before.if1.false))
+    (c.before.with_status.ensures
     ∙ ap (λ (k : ℤ). with_status v.result (Exited k))
     (to_z-of_z {w = w64} q.before.before.ranges.code))
-    c.with-process.ensures
+    c.with_process.ensures
 
 -- ---- Killing a job -------------------------------------------------------------------------
 
@@ -187,21 +187,21 @@ abbrev decreases_loop2 : kill-job-lts.decreases-loop2
 decreases_loop2 t₀ j c p₀ t p = 64 - p
 
 kill_marked : (m : ℕ)
-    (c : kill-job-lts.After-with-job (kill_job_claims m) (kill_job_at m) kill-job.Post
+    (c : kill-job-lts.After-with_job (kill_job_claims m) (kill_job_at m) kill-job.Post
     invariant_loop decreases_loop invariant_loop2 decreases_loop2)
     → Marked c.before.before.before.before.before.args.t
     c.before.before.before.before.before.args.j
-    c.with-job.result
+    c.with_job.result
 kill_marked m c =
     let q = c.before.before.before in
-    marked _ _ _ _ _ q.before.job-at.ensures
-    (told q.is-live-job.ensures (not-false _ c.before.before.if1.false))
-    c.before.killed.ensures c.with-job.ensures
+    marked _ _ _ _ _ q.before.job_at.ensures
+    (told q.is_live_job.ensures (not-false _ c.before.before.if1.false))
+    c.before.killed.ensures c.with_job.ensures
 
 -- ---- The three together --------------------------------------------------------------------
 
-pub +end-process-exit-process-kill-job-spec : {M : Type 1} → statement M
-+end-process-exit-process-kill-job-spec =
+pub +end_process_exit_process_kill_job_spec : {M : Type 1} → statement M
++end_process_exit_process_kill_job_spec =
     close μ_end_process μ_exit_process μ_kill_job
     (λ m. end-process-lts.spec (end_process_claims m) (end_process_at m) end-process.Post
     (λ c κs. search rules)
@@ -214,12 +214,12 @@ pub +end-process-exit-process-kill-job-spec : {M : Type 1} → statement M
     let u = c.before.before.before.before.before in
     let p = u.before.before in
     let z = p.before in
-    let e = p.process-at.ensures in
-    let h = unlisted_le z.args.t z.args.p _ _ e u.unlist-process.ensures in
+    let e = p.process_at.ensures in
+    let h = unlisted_le z.args.t z.args.p _ _ e u.unlist_process.ensures in
     (omega (arith, z.requires.0, h), tt))
     (λ c.
     let u = c.before.before in
-    end_free _ _ _ _ u.before.before.process-at.ensures u.unlist-process.ensures
+    end_free _ _ _ _ u.before.before.process_at.ensures u.unlist_process.ensures
     c.enum_told.given.1)
     (λ c.
     let a = c.before.before in
@@ -227,9 +227,9 @@ pub +end-process-exit-process-kill-job-spec : {M : Type 1} → statement M
     let g = a.before.before.critical.given in
     let d = u.before.code in
     let n = g.0.1.0 in
-    c.kill-job.ensures ∙ end_acts _ _ _ _ u.before.before.process-at.ensures
-    u.unlist-process.ensures _ n g.1
-    (asked n d.result _ a.binding-acts.ensures (record { sfits = d.type-inv }) d.ensures
+    c.kill_job.ensures ∙ end_acts _ _ _ _ u.before.before.process_at.ensures
+    u.unlist_process.ensures _ n g.1
+    (asked n d.result _ a.binding_acts.ensures (record { sfits = d.type_inv }) d.ensures
     c.before.if1.true))
     (λ c.
     let a = c.before in
@@ -237,31 +237,31 @@ pub +end-process-exit-process-kill-job-spec : {M : Type 1} → statement M
     let g = a.before.before.critical.given in
     let d = u.before.code in
     let n = g.0.1.0 in
-    end_rests _ _ _ _ u.before.before.process-at.ensures
-    u.unlist-process.ensures _ n g.1
-    (asked n d.result _ a.binding-acts.ensures (record { sfits = d.type-inv }) d.ensures
+    end_rests _ _ _ _ u.before.before.process_at.ensures
+    u.unlist_process.ensures _ n g.1
+    (asked n d.result _ a.binding_acts.ensures (record { sfits = d.type_inv }) d.ensures
     c.if1.false)))
     (λ m. exit-process-lts.spec (exit_process_claims m) (exit_process_at m) exit-process.Post
     (λ c κs. search rules)
     (λ c κs. search rules)
-    (λ c. exit_done _ _ _ _ c.before.before.process-at.ensures
-    (told c.before.is-live-process.ensures (not-true _ c.if1.true)))
+    (λ c. exit_done _ _ _ _ c.before.before.process_at.ensures
+    (told c.before.is_live_process.ensures (not-true _ c.if1.true)))
     (λ c κs. search rules)
     (λ c κs. search rules)
     (λ c κs. search rules)
     (λ c κs. search rules)
     (λ c.
     let l = c.before.before in
-    c.stop-threads.ensures ∙ exit_stops _ _ _ _ (exit_marked m l.before)
-    (told l.lists-thread.ensures c.before.if2.true))
+    c.stop_threads.ensures ∙ exit_stops _ _ _ _ (exit_marked m l.before)
+    (told l.lists_thread.ensures c.before.if2.true))
     (λ c κs.
     let w = c.before.before in
     let h = exiting_lt _ _ _ _ (exit_marked m w) in
     (omega (arith, w.before.before.before.before.before.requires.0, h), tt))
     (λ c.
     let l = c.before.before in
-    c.end-process.ensures ∙ exit_ends _ _ _ _ (exit_marked m l.before)
-    (told l.lists-thread.ensures c.before.if2.false)))
+    c.end_process.ensures ∙ exit_ends _ _ _ _ (exit_marked m l.before)
+    (told l.lists_thread.ensures c.before.if2.false)))
     (λ m. kill-job-lts.spec (kill_job_claims m) (kill_job_at m) kill-job.Post
     invariant_loop
     decreases_loop
@@ -269,19 +269,19 @@ pub +end-process-exit-process-kill-job-spec : {M : Type 1} → statement M
     decreases_loop2
     (λ c κs. search rules)
     (λ c κs. search rules)
-    (λ c. kill_dead _ _ _ c.before.before.job-at.ensures
-    (told c.before.is-live-job.ensures (not-true _ c.if1.true)))
+    (λ c. kill_dead _ _ _ c.before.before.job_at.ensures
+    (told c.before.is_live_job.ensures (not-true _ c.if1.true)))
     (λ c κs. search rules)
     (λ c κs. search rules)
     (λ c κs. search rules)
     (λ c κs. search rules)
     (λ c.
     let e = c.before.before in
-    c.terminate-job.ensures ∙ kill_empty _ _ _ (kill_marked m e.before)
-    (told e.job-empty.ensures c.before.if2.true))
+    c.terminate_job.ensures ∙ kill_empty _ _ _ (kill_marked m e.before)
+    (told e.job_empty.ensures c.before.if2.true))
     (λ c κs. search rules)
-    (λ c. child_first _ _ _ _ (search length_mapped) (search length_mapped) refl c.child-from.ensures.0
-    c.child-from.ensures.1)
+    (λ c. child_first _ _ _ _ (search length_mapped) (search length_mapped) refl c.child_from.ensures.0
+    c.child_from.ensures.1)
     (λ c κs.
     let w = c.before.before.before.before.before in
     let l = c.before.loop in
@@ -289,17 +289,17 @@ pub +end-process-exit-process-kill-job-spec : {M : Type 1} → statement M
     (omega (arith, w.before.before.before.before.before.requires.0, h), tt))
     (λ c. search rules)
     (λ c κs. search rules)
-    (λ c. omega (arith, next_from _ _ _ c.child-from2.ensures.0, c.before.before.loop-test.true))
+    (λ c. omega (arith, next_from _ _ _ c.child_from2.ensures.0, c.before.before.loop-test.true))
     (λ c.
     let l = c.before.before in
-    let r = c.child-from2.ensures in
-    let o = c.before.kill-job.type-inv in
+    let r = c.child_from2.ensures in
+    let o = c.before.kill_job.type-inv in
     child_turn _ _ _ _ (search (length_mapped, o)) (search (length_mapped, o)) _ _ l.before.loop.invariant
     l.loop-test.true
-    c.before.kill-job.ensures r.0 r.1)
+    c.before.kill_job.ensures r.0 r.1)
     (λ c κs. search rules)
-    (λ c. member_first _ _ _ _ c.before.before.loop.invariant.3 refl c.process-from.ensures.0
-    c.process-from.ensures.1)
+    (λ c. member_first _ _ _ _ c.before.before.loop.invariant.3 refl c.process_from.ensures.0
+    c.process_from.ensures.1)
     (λ c κs.
     let a = c.before.before.before.before in
     let w = a.before.before.before.before in
@@ -310,18 +310,18 @@ pub +end-process-exit-process-kill-job-spec : {M : Type 1} → statement M
     (omega (arith, w.before.before.before.before.before.requires.0, h, i), tt))
     (λ c. search rules)
     (λ c κs. search rules)
-    (λ c. omega (arith, next_from _ _ _ c.process-from2.ensures.0, c.before.before.loop2-test.true))
+    (λ c. omega (arith, next_from _ _ _ c.process_from2.ensures.0, c.before.before.loop2-test.true))
     (λ c.
     let l = c.before.before in
-    let r = c.process-from2.ensures in
-    let o = c.before.exit-process.type-inv in
+    let r = c.process_from2.ensures in
+    let o = c.before.exit_process.type-inv in
     member_turn _ _ _ _ (search (length_mapped, o)) _ _ l.before.loop2.invariant l.loop2-test.true
-    c.before.exit-process.ensures r.0 r.1)
+    c.before.exit_process.ensures r.0 r.1)
     (λ c.
     let a = c.before.before.before.before in
     let e = a.before.before.before in
     let l = a.loop in
     let k = c.before.loop2 in
     kill_loops _ _ _ (kill_marked m e.before)
-    (told e.job-empty.ensures a.before.before.if2.false)
+    (told e.job_empty.ensures a.before.before.if2.false)
     l.c k.p l.t k.t (omega (arith, l.invariant.1)) (omega (arith, k.invariant.1)) l.invariant.0 k.invariant.0))

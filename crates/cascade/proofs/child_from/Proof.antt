@@ -9,4 +9,4 @@ child_from_spec =
     tie.close
     (tie.spec
     (λ c κs. search rules)
-    (λ c. (c.child-from.ensures, λ h. next_within _ _ _ 32 (search length_mapped) c.child-from.ensures h)))
+    (λ c. (c.child_from.ensures, λ h. next_within _ _ _ 32 (search length_mapped) c.child_from.ensures h)))

@@ -11,5 +11,5 @@ ends_alone_spec =
     (tie.spec
     (λ c. search rules)
     (λ c. search rules)
-    (λ c. rw c.before.enum_told.given.1)
-    (λ c. rw c.enum-told2.given.1))
+    (λ c. rw c.in-Free.is)
+    (λ c. rw c.in-To.is))

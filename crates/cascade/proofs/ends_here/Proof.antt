@@ -12,14 +12,14 @@ ends_here_spec =
     tie.close
     (tie.spec
     (λ c κs. search rules)
-    (λ c. rw (told c.before.lists-thread.ensures c.if1.true))
+    (λ c. rw (told c.lists_thread.ensures c.if-lists_thread.true))
     (λ c. rw (
-      told c.before.before.before.lists-thread.ensures c.before.before.if1.false,
+      told c.lists_thread.ensures c.if-lists_thread.false,
       le-leb _ _
-          c.if2.true,
+          c.if-q-ge32.true,
     ))
     (λ c κs. search rules)
     (λ c. rw (
-      told c.before.before.before.before.lists-thread.ensures c.before.before.before.if1.false,
-      lt-leb _ _ c.before.if2.false,
-    ) c.ends-alone.ensures))
+      told c.lists_thread.ensures c.if-lists_thread.false,
+      lt-leb _ _ c.if-q-ge32.false,
+    ) c.ends_alone.ensures))

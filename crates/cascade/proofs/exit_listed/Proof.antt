@@ -11,6 +11,6 @@ exit_listed_spec =
     (tie.spec
     (λ c κs. search rules)
     (λ c κs. search rules)
-    (λ c. yes _ _ (told c.before.before.lists-thread.ensures c.before.if1.true) c.stop-threads.ensures)
+    (λ c. yes _ _ (told c.lists_thread.ensures c.if-lists_thread.true) c.stop_threads.ensures)
     (λ c κs. search rules)
-    (λ c. no _ _ (told c.before.before.lists-thread.ensures c.before.if1.false) c.end-process.ensures))
+    (λ c. no _ _ (told c.lists_thread.ensures c.if-lists_thread.false) c.end_process.ensures))

@@ -9,5 +9,5 @@ unfolding is_live_job
 is_live_job_spec =
     tie.close
     (tie.spec
-    (λ c. and_goes _ c.before.if1.true refl)
-    (λ c. and_stops _ c.if1.false))
+    (λ c. and_goes _ c.if-v.true refl)
+    (λ c. and_stops _ c.if-v.false))

@@ -12,5 +12,5 @@ is_live_process_spec =
     tie.close
     (tie.spec
     (λ c κs. search rules)
-    (λ c. and_goes _ c.before.if1.true (ap not c.is-exited.ensures))
-    (λ c. and_stops _ c.if1.false))
+    (λ c. and_goes _ c.if-v.true (ap not c.is_exited.ensures))
+    (λ c. and_stops _ c.if-v.false))

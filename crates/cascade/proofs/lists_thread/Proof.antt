@@ -9,4 +9,4 @@ lists_thread_spec =
     tie.close
     (tie.spec
     (λ c κs. search rules)
-    (λ c. c.lists-thread.ensures))
+    (λ c. c.lists_thread.ensures))

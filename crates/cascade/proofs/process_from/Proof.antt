@@ -9,4 +9,4 @@ process_from_spec =
     tie.close
     (tie.spec
     (λ c κs. search rules)
-    (λ c. (c.process-from.ensures, λ h. next_within _ _ _ 64 (search length_mapped) c.process-from.ensures h)))
+    (λ c. (c.process_from.ensures, λ h. next_within _ _ _ 64 (search length_mapped) c.process_from.ensures h)))

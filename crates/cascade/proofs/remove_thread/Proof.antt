@@ -9,7 +9,7 @@ remove_thread_spec =
     tie.close
     (tie.spec
     (λ c κs. search rules)
-    (λ c. first _ _ (told c.before.lists-thread.ensures c.if1.true) refl)
+    (λ c. first _ _ (told c.lists_thread.ensures c.if-lists_thread.true) refl)
     (λ c κs. search rules)
-    (λ c. second _ _ (told c.before.before.lists-thread.ensures c.before.if1.false)
-    c.end-process.ensures))
+    (λ c. second _ _ (told c.lists_thread.ensures c.if-lists_thread.false)
+    c.end_process.ensures))

@@ -14,4 +14,4 @@ stop_threads_spec =
     tie.close
     (tie.spec
     (λ c κs. search rules)
-    (λ c. ap (with_threads c.before.before.args.t) c.each-thread.ensures))
+    (λ c. ap (with_threads c.args.t) c.each_thread-stopped.ensures))

@@ -26,5 +26,5 @@ create_child_spec =
     (λ c κs. search rules)
     (λ c κs. search rules)
     (λ c t a b d e f.
-    let m = simp (c.before.merge.ensures, c.before.before.new6.ensures) at c.new7.ensures in
+    let m = simp (c.merge.ensures, c.new-2.ensures) at c.new-3.ensures in
     search (moving, makes, m) depth 20))

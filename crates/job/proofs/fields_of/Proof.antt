@@ -14,6 +14,6 @@ fields_of_spec =
     tie.close
     (tie.spec
     (λ c.
-    let j = c.before.before.args.v in
+    let j = c.args.v in
     let f : SFits w64 j.slack.amount = search rules in
     ap (λ amount. JobFields j.killed j.terminated amount j.slack.mode) (to_z-of_z {w = w64} f)))

@@ -19,6 +19,6 @@ get_info_spec =
     (λ c κs. search rules)
     (λ c κs. search rules)
     (λ c t h o i.
-    let f = c.before.fields-of.ensures in
+    let f = c.fields_of.ensures in
     let m = c.merge.ensures in
     search (moving, f, m) depth 20))

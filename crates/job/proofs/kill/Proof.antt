@@ -21,24 +21,19 @@ kill_spec =
     (λ c t h a. search moving depth 20)
     (λ c κs. search rules)
     (λ c t h a.
-    let v = c.before.before.before in
-    let f = v.before.before in
-    let is = job_is f.found.ensures v.v.given.1 in
-    let k = ap (λ (x : Job). x.killed) is ∙ c.before.if2.true in
-    let e = was_killed t _ c.new3.ensures f.before.if1.false h k in
+    let is = job_is c.found.ensures c.in-OldJob.is in
+    let k = ap (λ (x : Job). x.killed) is ∙ c.if-v.true in
+    let e = was_killed t _ c.new-then-v.ensures c.if-job-ge32.false h k in
     search (moving, e) depth 20)
     (λ c κs. search rules)
     (λ c κs. search rules)
     (λ c κs. search rules)
     (λ c t h a.
-    let l = c.before.before.before.before in
-    let v = l.before.before in
-    let f = v.before.before in
-    let is = job_is f.found.ensures v.v.given.1 in
-    let k = ap (λ (x : Job). x.killed) is ∙ l.if2.false in
-    let w = simp (c.before.terminated.ensures, c.before.before.killed.ensures, ← is) at c.new4.ensures in
-    let e = kills_here t _ w f.before.if1.false h (job_made _ f.found.ensures v.v.given.1) k
-    (a c.before.before.before.if3.true) in
+    let is = job_is c.found.ensures c.in-OldJob.is in
+    let k = ap (λ (x : Job). x.killed) is ∙ c.if-v.false in
+    let w = simp (c.terminated.ensures, c.killed.ensures, ← is) at c.new-then-alone.ensures in
+    let e = kills_here t _ w c.if-job-ge32.false h (job_made _ c.found.ensures c.in-OldJob.is) k
+    (a c.if-alone.true) in
     search (moving, e) depth 20)
     (λ c κs. search rules)
-    (λ c t h a. let e = kills_on t _ c.new5.ensures h in search (moving, e) depth 20))
+    (λ c t h a. let e = kills_on t _ c.new-2.ensures h in search (moving, e) depth 20))

@@ -10,4 +10,4 @@ set_policy_spec =
     (tie.spec
     (λ c κs. search rules)
     (λ c κs. search rules)
-    (λ c t h o i e. c.settle-policy.ensures t h o e ∙ one_pass_at t _ _ _ _ c.before.first.ensures o i))
+    (λ c t h o i e. c.settle_policy.ensures t h o e ∙ one_pass_at t _ _ _ _ c.first-w.ensures o i))

@@ -19,16 +19,16 @@ use Rattle.job.proofs.set_policy_timer_slack.Statement.{statement}
 use Rattle.job.proofs.set_policy_timer_slack.Tie as tie
 
 -- past every test: where the call began, and the job that was found
-abbrev began : tie.Else4 → tie.Start
-began c = c.before.before.before.before.before.before.before.before.before.before.before
+abbrev began : tie.Else-policy-lt0 → tie.Start
+began c = c.before.before.before.before.before.before.before.before.before
 
-abbrev found : tie.Else4 → Job
-found c = c.before.before.before.before.before.v.given.0.0
+abbrev found : tie.Else-policy-lt0 → Job
+found c = c.in-OldJob.v
 
-past_table : (c : tie.Else4) → (began c).args.job < 32
-past_table c = c.before.before.before.before.before.before.before.before.if2.false
+past_table : (c : tie.Else-policy-lt0) → (began c).args.job < 32
+past_table c = c.if-job-ge32.false
 
-past_slack : (c : tie.Else4) {x : Reply} (t : Tables) →
+past_slack : (c : tie.Else-policy-lt0) {x : Reply} (t : Tables) →
     job_at t ((began c).args.job % 32) ≡ (began c).args.j → job_empty t (began c).args.job ≡ (began c).args.empty →
     x ≡ answered (put_job t (began c).args.job
     (with_slack (found c) (generate_new (found c).slack (began c).args.policy))) (pos 0) →
@@ -36,7 +36,7 @@ past_slack : (c : tie.Else4) {x : Reply} (t : Tables) →
 unfolding set_policy_timer_slack
 past_slack c t h k e =
     let f : SFits w64 (began c).args.policy.slack = search rules in
-    let s = simp (to_z-of_z {w = w64} f) at c.if4.false in
+    let s = simp (to_z-of_z {w = w64} f) at c.if-policy-lt0.false in
     search (moving, s) depth 20
 
 pub set_policy_timer_slack_spec : {M : Type 1} → statement M
@@ -57,14 +57,13 @@ set_policy_timer_slack_spec =
     (λ c t h o e. search moving depth 20)
     (λ c κs. search rules)
     (λ c t h o e.
-    let b = c.before in
-    let a = b.before.before.before.before.before.before.before.before.before.before.before.args in
+    let a = c.args in
     let f : SFits w64 a.policy.slack = search rules in
-    let s = simp (to_z-of_z {w = w64} f) at b.if4.true in
+    let s = simp (to_z-of_z {w = w64} f) at c.if-policy-lt0.true in
     search (moving, s) depth 20)
     (λ c κs. search rules)
     (λ c κs. search rules)
     (λ c t h o e.
     let b = c.before.before.before in
-    let m = simp c.before.generate-new.ensures at c.new6.ensures in
+    let m = simp c.generate_new-after.ensures at c.new-2.ensures in
     past_slack b t h e (stores t _ _ _ m (past_table b) o)))

@@ -23,21 +23,16 @@ exit_spec =
     (λ c κs. search rules)
     (λ c κs. search rules)
     (λ c t h.
-    let o = c.before.before.before.before in
-    let f = o.before.before in
-    let is = process_is f.found.ensures o.old.given.1 in
-    let x = sym c.before.before.is-exited.ensures ∙ c.before.if2.true in
-    let e = exited t _ f.before.before.args.code c.new3.ensures f.before.if1.false h (rw is x) in
+    let is = process_is c.found.ensures c.in-OldProcess.is in
+    let x = sym c.is_exited.ensures ∙ c.if-is_exited.true in
+    let e = exited t _ c.args.code c.new-then-is_exited.ensures c.if-process-ge64.false h (rw is x) in
     search (moving, e) depth 20)
     (λ c κs. search rules)
     (λ c κs. search rules)
     (λ c t h.
-    let o = c.before.before.before.before.before in
-    let f = o.before.before in
-    let a = f.before.before in
-    let is = process_is f.found.ensures o.old.given.1 in
-    let x = sym c.before.before.before.is-exited.ensures ∙ c.before.before.if2.false in
-    let w = simp (to_z-of_z {w = w64} a.ranges.code) at c.before.with-status.ensures in
-    let e = exits t _ a.args.code c.new4.ensures (rw is w) f.before.if1.false h
-    (process_made _ f.found.ensures o.old.given.1) (rw is x) in
+    let is = process_is c.found.ensures c.in-OldProcess.is in
+    let x = sym c.is_exited.ensures ∙ c.if-is_exited.false in
+    let w = simp (to_z-of_z {w = w64} c.ranges.code) at c.with_status.ensures in
+    let e = exits t _ c.args.code c.new-2.ensures (rw is w) c.if-process-ge64.false h
+    (process_made _ c.found.ensures c.in-OldProcess.is) (rw is x) in
     search (moving, e) depth 20))

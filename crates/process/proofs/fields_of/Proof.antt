@@ -28,7 +28,7 @@ fields_of_spec =
     (λ c κs. search rules)
     (λ c κs. search rules)
     (λ c.
-    let code = c.before.before.before.code in
-    let got : SFits w64 code.result = record { sfits = code.type-inv } in
-    shown _ (to_z-of_z {w = w64} got ∙ code.ensures) c.before.before.is-init.ensures
-    c.before.is-exited.ensures c.is_bound.ensures))
+    let code = c.code in
+    let got : SFits w64 code.result = record { sfits = code.type_inv } in
+    shown _ (to_z-of_z {w = w64} got ∙ code.ensures) c.is_init.ensures
+    c.is_exited.ensures c.is_bound.ensures))

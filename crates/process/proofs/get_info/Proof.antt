@@ -19,5 +19,5 @@ get_info_spec =
     (λ c κs. search rules)
     (λ c κs. search rules)
     (λ c t h.
-    let f = simp c.before.fields-of.ensures at c.fields.ensures in
+    let f = simp c.fields_of.ensures at c.fields.ensures in
     search (moving, f) depth 20))

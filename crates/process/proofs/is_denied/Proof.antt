@@ -13,4 +13,4 @@ is_denied_spec =
     (λ c. search rules)
     (λ c. search rules)
     (λ c. search branches)
-    (λ c. rw c.before.found.given.1 refl))
+    (λ c. rw c.in-Action.is refl))

@@ -12,6 +12,6 @@ panics_at_spec =
     (tie.spec
     (λ c. search rules)
     (λ c. search rules)
-    (λ c. rw c.before.before.found.given.1 (search branches))
+    (λ c. rw c.in-Action.is (search branches))
     (λ c. search branches)
-    (λ c. rw c.before.before.found.given.1 (search branches)))
+    (λ c. rw c.in-Action.is (search branches)))

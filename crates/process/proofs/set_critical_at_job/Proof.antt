@@ -19,22 +19,21 @@ use Rattle.process.proofs.set_critical_at_job.Statement.{statement}
 use Rattle.process.proofs.set_critical_at_job.Tie as tie
 
 -- past the test of the binding: where the call began, and the process that was found
-abbrev began : tie.Else4 → tie.Start
-began c = c.before.before.before.before.before.before.before.before.before.before.before.before
+abbrev began : tie.Else-is_bound → tie.Start
+began c = c.before.before.before.before.before.before.before.before.before
 
-abbrev old : tie.Else4 → Process
-old c = c.before.before.before.before.before.before.old.given.0.0
+abbrev old : tie.Else-is_bound → Process
+old c = c.in-OldProcess.old
 
-is : (c : tie.Else4) → (began c).args.q ≡ old c
+is : (c : tie.Else-is_bound) → (began c).args.q ≡ old c
 is c =
-    let o = c.before.before.before.before.before.before in
-    process_is o.before.before.found.ensures o.old.given.1
+    process_is c.found.ensures c.in-OldProcess.is
 
-same_job : (c : tie.Else4) (t : Tables) →
+same_job : (c : tie.Else-is_bound) (t : Tables) →
     at_or_above t (began c).args.job (old c).job ≡ at_or_above t (began c).args.job (began c).args.q.job
 same_job c t = ap (λ (w : Process). at_or_above t (began c).args.job w.job) (sym (is c))
 
-module _ (c : tie.Else4) {x : Reply} (t : Tables)
+module _ (c : tie.Else-is_bound) {x : Reply} (t : Tables)
     (h : process_at t ((began c).args.process % 64) ≡ (began c).args.q)
     (k : job_at t ((began c).args.job % 32) ≡ (began c).args.j) where
   denied : at_or_above t (began c).args.job (began c).args.q.job ≡ false → x ≡ answered t (minus 10) →
@@ -76,11 +75,11 @@ set_critical_at_job_spec =
     (λ c t h k a. search moving depth 20)
     (λ c κs. search rules)
     (λ c t h k a.
-    denied c.before.before t h k (a ∙ not-true _ c.before.if5.true) (stays t _ _ c.new7.ensures h))
+    denied c.before.before t h k (a ∙ c.if-not-above.true) (stays t _ _ c.new-then-not-above.ensures h))
     (λ c κs. search rules)
     (λ c κs. search rules)
     (λ c t h k a.
     let e = c.before.before.before in
-    let m = simp c.before.bind_to.ensures at c.new8.ensures in
-    accepted e t h k (a ∙ not-false _ c.before.before.if5.false)
-    (stores t _ _ _ m e.before.before.before.before.before.before.before.before.before.before.if2.false)))
+    let m = simp c.bind_to.ensures at c.new-2.ensures in
+    accepted e t h k (a ∙ c.if-not-above.false)
+    (stores t _ _ _ m c.if-process-ge64.false)))

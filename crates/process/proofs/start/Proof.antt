@@ -17,27 +17,27 @@ use borrow.Author.Rules.{rules}
 use Rattle.process.proofs.start.Statement.{statement}
 use Rattle.process.proofs.start.Tie as tie
 
-past_started : (c : tie.Then5) {x : Reply} (t : Tables) →
-    let a = c.before.before.before.before.before.before.before.before.before.before.before.before.before.before.before.args in
+past_started : (c : tie.Then-not-is_init) {x : Reply} (t : Tables) →
+    let a = c.args in
     process_at t (a.process % 64) ≡ a.q → thread_at t (a.thread % 128) ≡ a.v →
     x ≡ answered t (minus 20) → x ≡ start_process t a.process a.thread
 unfolding start_process
 past_started c t h k e = search pairs depth 20
 
-past_init : (c : tie.Else5) {x : Reply} (t : Tables) →
-    let a = c.before.before.before.before.before.before.before.before.before.before.before.before.before.before.before.args in
+past_init : (c : tie.Else-not-is_init) {x : Reply} (t : Tables) →
+    let a = c.args in
     process_at t (a.process % 64) ≡ a.q → thread_at t (a.thread % 128) ≡ a.v →
     x ≡ answered (with_started t a.process a.thread
-    c.before.before.before.before.before.before.before.before.before.before.old.given.0.0
-    c.before.before.before.before.before.before.w.given.0.0) (pos 0) →
+    c.in-OldProcess.old
+    c.in-OldThread.w) (pos 0) →
     x ≡ start_process t a.process a.thread
 unfolding start_process
 past_init c t h k e = search pairs depth 20
 
-stored : (c : tie.Else5) {m : Both} (t : Tables) →
-    let a = c.before.before.before.before.before.before.before.before.before.before.before.before.before.before.before.args in
-    let q = c.before.before.before.before.before.before.before.before.before.before.old.given.0.0 in
-    let v = c.before.before.before.before.before.before.w.given.0.0 in
+stored : (c : tie.Else-not-is_init) {m : Both} (t : Tables) →
+    let a = c.args in
+    let q = c.in-OldProcess.old in
+    let v = c.in-OldThread.w in
     m ≡ pair (with_status q Running) (start v) (pos 0) →
     both_moved t a.process a.thread m ≡ answered (with_started t a.process a.thread q v) (pos 0)
 unfolding with_started
@@ -69,10 +69,10 @@ start_spec =
     (λ c t h k. search pairs depth 20)
     (λ c κs. search rules)
     (λ c κs. search rules)
-    (λ c t h k. past_started c.before t h k (both_stay t _ _ (minus 20) c.new7.ensures h k))
+    (λ c t h k. past_started c.before t h k (both_stay t _ _ (minus 20) c.new-then-not-is_init.ensures h k))
     (λ c κs. search rules)
     (λ c κs. search rules)
     (λ c κs. search rules)
     (λ c t h k.
     past_init c.before.before.before t h k (stored c.before.before.before t
-    (simp (c.before.start.ensures, c.before.before.with-status.ensures) at c.new8.ensures))))
+    (simp (c.start.ensures, c.with_status.ensures) at c.new-2.ensures))))

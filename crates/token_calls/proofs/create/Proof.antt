@@ -15,9 +15,6 @@ create_spec =
     (λ c κs. search rules)
     (λ c κs. search rules)
     (λ c.
-    let d = c.before.before.before in
-    let r = d.before.before in
-    let k = r.before.before.before in
-    creates _ _ _ _ r.before.before.thread-at.ensures r.before.process-at.ensures
-    r.job-at.ensures _ _
-    c.token-to.ensures d.each-unless.ensures k.token-at.ensures c.before.create.ensures))
+    creates _ _ _ _ c.thread_at-v.ensures c.process_at-q.ensures
+    c.job_at-j.ensures _ _
+    c.token_to.ensures c.each_unless-done.ensures c.token_at-k.ensures c.create-m.ensures))

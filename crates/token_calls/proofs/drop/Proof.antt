@@ -1,4 +1,4 @@
-use lib.ListN.{length, length-map}
+use lib.ListN.{length}
 use mathlib.Core.Path.{◌≡◌}
 use Rattle.token_calls.proofs.Moving.{drops}
 use borrow.Author.Rules.{rules}
@@ -15,11 +15,8 @@ drop_spec =
     (λ c κs. search rules)
     (λ c κs. search rules)
     (λ c.
-    let d = c.before.before.before in
-    let r = d.before.before in
-    let k = r.before.before in
-    let l : length k.before.args.t.threads ≡ 128 =
-    simp length-map at k.before.well-formed.0.1.1.1.1.1.1.1.0.1.0.1 in
-    drops _ _ _ _ _ c.token-to.ensures d.each-unless.ensures k.token-at.ensures
-    r.thread-at.ensures l
-    c.before.drop.ensures))
+    let l : length c.args.t.threads ≡ 128 =
+    c.well_formed.0.1.1.1.1.1.1.1.0.1.0.1 in
+    drops _ _ _ _ _ c.token_to.ensures c.each_unless-done.ensures c.token_at-k.ensures
+    c.thread_at-v.ensures l
+    c.drop-m.ensures))

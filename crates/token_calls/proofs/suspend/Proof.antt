@@ -14,8 +14,6 @@ suspend_spec =
     (λ c κs. search rules)
     (λ c κs. search rules)
     (λ c.
-    let d = c.before.before.before in
-    let r = d.before.before in
-    suspends _ _ _ _ r.before.before.thread-at.ensures r.before.process-at.ensures
-    r.job-at.ensures _
-    c.task-to.ensures d.each-unless.ensures c.before.suspend.ensures))
+    suspends _ _ _ _ c.thread_at-v.ensures c.process_at-q.ensures
+    c.job_at-j.ensures _
+    c.task_to.ensures c.each_unless-done.ensures c.suspend.ensures))

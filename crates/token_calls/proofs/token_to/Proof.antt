@@ -16,6 +16,6 @@ token_to_spec =
     (λ c κs. search rules)
     (λ c.
     let w = c.before.before in
-    let f : SFits w64 w.before.before.before.before.args.m.task.answer = search rules in
-    simp (to_z-of_z {w = w64} f, w.with-token.ensures, w.before.changed-to.ensures) at
+    let f : SFits w64 c.args.m.task.answer = search rules in
+    simp (to_z-of_z {w = w64} f, c.with_token.ensures, c.changed_to-u.ensures) at
     c.answered.ensures))

@@ -9,4 +9,4 @@ job_empty_spec =
     tie.close
     (tie.spec
     (λ c κs. search rules)
-    (λ c. c.job-empty.ensures))
+    (λ c. c.job_empty.ensures))

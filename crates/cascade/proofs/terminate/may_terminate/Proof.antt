@@ -18,6 +18,5 @@ may_terminate_spec =
     (λ c κs. search rules)
     (λ c κs. search rules)
     (λ c.
-    let b = c.before in
-    and_goes _ (read_killed b.before.job-at.ensures b.if1.true) c.job-empty.ensures)
-    (λ c. and_stops _ (read_killed c.before.job-at.ensures c.if1.false)))
+    and_goes _ (read_killed c.job_at-job.ensures c.if-job.true) c.job_empty.ensures)
+    (λ c. and_stops _ (read_killed c.job_at-job.ensures c.if-job.false)))

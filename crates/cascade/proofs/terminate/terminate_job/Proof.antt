@@ -9,11 +9,11 @@ use borrow.Author.Rules.{rules}
 use Rattle.cascade.proofs.terminate.terminate_job.Statement.{statement}
 use Rattle.cascade.proofs.terminate.terminate_job.Tie as tie
 
-abbrev invariant_loop : tie.invariant-loop
+abbrev invariant_loop : tie.invariant-loop-step
 invariant_loop t₀ j at₀ step₀ t at step =
     (terminate_up (32 - step) t at ≡ terminate_up 32 t₀ at₀) × (step ≤ 32)
 
-abbrev decreases_loop : tie.decreases-loop
+abbrev decreases_loop : tie.decreases-loop-step
 decreases_loop t₀ j at₀ step₀ t at step = 32 - step
 
 pub terminate_job_spec : {M : Type 1} → statement M
@@ -30,43 +30,36 @@ terminate_job_spec =
     (λ c. search rules)
     (λ c. search rules)
     (λ c.
-    let l = c.before.before.before.before.before.before.loop in
+    let l = c.loop-step in
     let n : ℕ = 32 - (l.step + 1) in
     let e : suc n ≡ 32 - l.step = omega arith in
-    let w = c.before.before in
     up_orphan n _ e _ _ _ _ _
-    w.before.before.job-at.ensures w.before.terminated.ensures w.with-job.ensures
-    c.enum_told.given.1 ∙ l.invariant.0)
+    c.job_at-job.ensures c.terminated.ensures c.with_job-t.ensures
+    c.in_default.is ∙ l.invariant.0)
     (λ c κs. search rules)
     (λ c.
-    let l = c.before.before.before.before.before.before.before.before.before.loop in
+    let l = c.loop-step in
     let n : ℕ = 32 - (l.step + 1) in
     let e : suc n ≡ 32 - l.step = omega arith in
-    let m = c.before in
-    let p = m.before.before in
-    let w = p.before.before in
     up_stops n _ e _ _ _ _ _
-    w.before.before.job-at.ensures w.before.terminated.ensures w.with-job.ensures
-    _ p.parent.given.1
-    (told m.may-terminate.ensures (not-true _ c.if1.true))
+    c.job_at-job.ensures c.terminated.ensures c.with_job-t.ensures
+    _ c.in-ChildOf.is
+    (told c.may_terminate.ensures c.if-not-may_terminate.true)
     ∙ l.invariant.0)
     (λ c. search rules)
     (λ c. search rules)
     (λ c.
-    let l = c.before.before.before.before.before.before.before.before.before.loop in
+    let l = c.loop-step in
     let n : ℕ = 32 - (l.step + 1) in
-    let e : suc n ≡ 32 - l.step = omega arith in
-    let m = c.before in
-    let p = m.before.before in
-    let w = p.before.before in (
+    let e : suc n ≡ 32 - l.step = omega arith in (
       up_goes n _ e _ _ _ _ _
-          w.before.before.job-at.ensures w.before.terminated.ensures w.with-job.ensures
-          _ p.parent.given.1
-          (told m.may-terminate.ensures (not-false _ c.if1.false))
+          c.job_at-job.ensures c.terminated.ensures c.with_job-t.ensures
+          _ c.in-ChildOf.is
+          (told c.may_terminate.ensures c.if-not-may_terminate.false)
           ∙ l.invariant.0,
       search rules,
     ))
     (λ c.
-    let l = c.before.loop in
+    let l = c.loop-step in
     let e : 0 ≡ 32 - l.step = omega arith in
     up_out _ _ _ e ∙ l.invariant.0))

@@ -15,15 +15,11 @@ unlist_process_spec =
     (λ c κs. search rules)
     (λ c κs. search rules)
     (λ c.
-    let m = c.before.before in
-    let p = m.before in
-    c.terminate-job.ensures
-    ∙ unlist_goes _ _ _ _ _ p.before.before.process-at.ensures p.before.ended.ensures
-    p.with-process.ensures
-    (told m.may-terminate.ensures c.before.if1.true))
+    c.terminate_job.ensures
+    ∙ unlist_goes _ _ _ _ _ c.process_at-process.ensures c.ended.ensures
+    c.with_process-t.ensures
+    (told c.may_terminate.ensures c.if-may_terminate.true))
     (λ c.
-    let m = c.before in
-    let p = m.before in
-    unlist_stays _ _ _ _ _ p.before.before.process-at.ensures p.before.ended.ensures
-    p.with-process.ensures
-    (told m.may-terminate.ensures c.if1.false)))
+    unlist_stays _ _ _ _ _ c.process_at-process.ensures c.ended.ensures
+    c.with_process-t.ensures
+    (told c.may_terminate.ensures c.if-may_terminate.false)))

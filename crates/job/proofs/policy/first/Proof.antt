@@ -9,19 +9,19 @@ use Rattle.job.proofs.Fold.{Passed, first_next, first_end}
 use Rattle.job.proofs.policy.first.Statement.{statement}
 use Rattle.job.proofs.policy.first.Tie as tie
 
-abbrev invariant_loop : tie.invariant-loop
+abbrev invariant_loop : tie.invariant-loop-i
 invariant_loop option count policies w₀ n i₀ w i = Passed w₀ policies n 15 w i
 
-abbrev decreases_loop : tie.decreases-loop
+abbrev decreases_loop : tie.decreases-loop-i
 decreases_loop option count policies w₀ n i₀ w i = 15 - i
 
-loop_holds : tie.Need-loop-init invariant_loop decreases_loop
+loop_holds : tie.Need-loop-i-init invariant_loop decreases_loop
 loop_holds c = (search (rules, length_mapped), (search rules, refl))
 
-loop_again : tie.Need-loop-preserved invariant_loop decreases_loop
+loop_again : tie.Need-loop-i-preserved invariant_loop decreases_loop
 loop_again c =
-    let inv = c.before.before.before.before.loop.invariant in
-    let e = c.step.ensures in (
+    let inv = c.loop-i.invariant in
+    let e = c.step-w.ensures in (
       search (rules, length_mapped),
       (
         search rules,
@@ -38,8 +38,7 @@ first_spec =
     (λ c κs. search rules)
     loop_holds
     (λ c.
-    let l = c.before.before in
-    rw (← l.before.start.ensures) (first_end _ _ _ _ _ _ l.loop.invariant (simp length-take (omega arith))))
+    rw (← c.start-w.ensures) (first_end _ _ _ _ _ _ c.loop-i.invariant (simp length-take (omega arith))))
     (λ c. search rules)
     (λ c. search rules)
     (λ c κs. search rules)
@@ -47,5 +46,4 @@ first_spec =
     (λ c. search rules)
     loop_again
     (λ c.
-    let l = c.before in
-    rw (← l.before.start.ensures) (first_end _ _ _ _ _ _ l.loop.invariant (simp length-take (omega arith)))))
+    rw (← c.start-w.ensures) (first_end _ _ _ _ _ _ c.loop-i.invariant (simp length-take (omega arith)))))

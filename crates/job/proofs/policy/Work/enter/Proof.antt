@@ -27,6 +27,6 @@ enter_spec =
     (λ c. search rules)
     (λ c. search rules)
     (λ c κs. search rules)
-    (λ c. rw c.apply.ensures (second _ _ (search unset_there) refl))
+    (λ c. rw c.apply-self.ensures (second _ _ (search unset_there) refl))
     (λ c. first _ _ (search set_there) (first _ _ (search eq-eqb) refl))
     (λ c. first _ _ (search set_there) (second _ _ (search ne_eqb) refl)))

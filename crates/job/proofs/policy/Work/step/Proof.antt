@@ -12,6 +12,6 @@ step_spec =
     (tie.spec
     (λ c κs. search rules)
     (λ c. first _ _ (search told) refl)
-    (λ c. second _ _ (search told) (first _ _ c.if2.true refl))
+    (λ c. second _ _ (search told) (first _ _ c.if-self.true refl))
     (λ c κs. search rules)
-    (λ c. second _ _ (search told) (second _ _ c.before.if2.false c.enter.ensures)))
+    (λ c. second _ _ (search told) (second _ _ c.if-self.false c.enter.ensures)))
