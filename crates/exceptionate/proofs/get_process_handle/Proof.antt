@@ -25,9 +25,9 @@ get_process_handle_spec =
     (λ c κs. search rules)
     (λ c κs. search rules)
     (λ c t h.
-    let e = sym c.before.before.current.ensures ∙ c.before.if2.true in
+    let e = sym c.current.ensures ∙ c.if-current-eq2.true in
     search (moving, e) depth 20)
     (λ c κs. search rules)
     (λ c t h.
-    let e = simp c.before.before.current.ensures at c.before.if2.false in
+    let e = simp c.current.ensures at c.if-current-eq2.false in
     search (moving, e) depth 20))

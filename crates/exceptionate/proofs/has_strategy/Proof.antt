@@ -8,5 +8,5 @@ has_strategy_spec =
     tie.close
     (tie.spec
     (λ c κs. search rules)
-    (λ c. rw (← c.before.current.ensures) (search branches))
-    (λ c. rw (← c.before.current.ensures) (search branches)))
+    (λ c. rw (← c.current-level.ensures) (search branches))
+    (λ c. rw (← c.current-level.ensures) (search branches)))

@@ -19,15 +19,14 @@ on_job_spec =
     (λ c κs. search rules)
     (λ c κs. search rules)
     (λ c t h.
-    let w = c.before.before.before.before in
-    let got : SFits w64 c.before.before.answer.given.0.0 = search
-    (rules, c.before.known-told.given) in
-    job_refused _ _ t _ _ w.on-level.ensures w.before.before.of-job.ensures
-    w.before.job-level.ensures h
-    c.before.before.answer.given.1 (simp (to_z-of_z {w = w64} got) at c.new.ensures))
+    let w = c.before.before in
+    let got : SFits w64 c.in-Refused.answer = search
+    (rules, c.in-Refused.known_told-1-own.given) in
+    job_refused _ _ t _ _ c.on_level.ensures c.of_job.ensures
+    c.job_level.ensures h
+    c.in-Refused.is (simp (to_z-of_z {w = w64} got) at c.new.ensures))
     (λ c t h.
-    let w = c.before.before.before.before.before in
-    job_set _ _ t _ _ w.on-level.ensures w.before.before.of-job.ensures
-    w.before.job-level.ensures h
-    c.before.before.before.l.given.1
-    (simp c.before.with-job-level.ensures at c.new2.ensures)))
+    job_set _ _ t _ _ c.on_level.ensures c.of_job.ensures
+    c.job_level.ensures h
+    c.in-Set.is
+    (simp c.with_job_level.ensures at c.new-in-Set.ensures)))

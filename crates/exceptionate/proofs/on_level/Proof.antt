@@ -12,5 +12,5 @@ on_level_spec =
     (λ c κs. search rules)
     (λ c. search rules)
     (λ c κs. search rules)
-    (λ c t b h. rw c.before.enum_told.given.1 (c.create-channel.ensures t b h))
-    (λ c t b h. rw c.before.enum-told2.given.1 (c.hang-up.ensures t b h)))
+    (λ c t b h. rw c.in-CreateChannel.is (c.create_channel.ensures t b h))
+    (λ c t b h. rw c.in-HangUp.is (c.hang_up.ensures t b h)))

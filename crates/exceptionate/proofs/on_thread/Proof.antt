@@ -18,12 +18,11 @@ on_thread_spec =
     (λ c κs. search rules)
     (λ c κs. search rules)
     (λ c t h.
-    let w = c.before.before.before.before in
-    let got : SFits w64 c.before.before.answer.given.0.0 = search
-    (rules, c.before.known-told.given) in
-    thread_refused _ t _ _ w.on-level.ensures w.before.thread-level.ensures h
-    c.before.before.answer.given.1 (simp (to_z-of_z {w = w64} got) at c.new.ensures))
+    let w = c.before.before in
+    let got : SFits w64 c.in-Refused.answer = search
+    (rules, c.in-Refused.known_told-1-own.given) in
+    thread_refused _ t _ _ c.on_level.ensures c.thread_level.ensures h
+    c.in-Refused.is (simp (to_z-of_z {w = w64} got) at c.new.ensures))
     (λ c t h.
-    let w = c.before.before.before.before.before in
-    thread_set _ t _ _ w.on-level.ensures w.before.thread-level.ensures h
-    c.before.before.before.l.given.1 (simp c.before.with-level2.ensures at c.new2.ensures)))
+    thread_set _ t _ _ c.on_level.ensures c.thread_level.ensures h
+    c.in-Set.is (simp c.with_level2.ensures at c.new-in-Set.ensures)))

@@ -13,10 +13,8 @@ process_level_spec =
     (λ c κs. search rules)
     (λ c. search rules)
     (λ c. search rules)
-    (λ c. rw (← c.before.before.found.ensures, c.enum_told.given.1))
+    (λ c. rw (← c.found.ensures, c.in_default.is))
     (λ c.
-    let w = c.before.before in
-    rw (← w.before.before.found.ensures, w.w.given.1, c.if1.true))
+    rw (← c.found.ensures, c.in-OldProcess.is, c.if-debugger.true))
     (λ c.
-    let w = c.before.before in
-    rw (← w.before.before.found.ensures, w.w.given.1, c.if1.false)))
+    rw (← c.found.ensures, c.in-OldProcess.is, c.if-debugger.false)))

@@ -14,10 +14,10 @@ use borrow.Author.Rules.{rules}
 use Rattle.exceptionate.proofs.set_state.Statement.{statement}
 use Rattle.exceptionate.proofs.set_state.Tie as tie
 
-past : (c : tie.Else2) (t : Tables) {m : Move} →
-    let a = c.before.before.before.before.before.before.before.before.before.before.args in
-    let w = c.before.before.before.before.before.before.w.given.0.0 in
-    let e = c.before.before.e.given.0.0 in
+past : (c : tie.Else-state-gt1) (t : Tables) {m : Move} →
+    let a = c.args in
+    let w = c.in-OldThread.w in
+    let e = c.in-Held.e in
     thread_at t (slot a.thread) ≡ a.v →
     m ≡ move (waits w w.state (InException (with_handled e (a.state =? 1)))) (pos 0) →
     moved t a.thread m ≡ set_state t a.thread a.state
@@ -45,4 +45,4 @@ set_state_spec =
     (λ c t h. search moving depth 20)
     (λ c κs. search rules)
     (λ c κs. search rules)
-    (λ c t h. past c.before.before t h (simp c.before.waits.ensures at c.new5.ensures)))
+    (λ c t h. past c.before.before t h (simp c.waits.ensures at c.new-2.ensures)))

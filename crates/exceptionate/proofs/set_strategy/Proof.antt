@@ -14,17 +14,17 @@ use borrow.Author.Rules.{rules}
 use Rattle.exceptionate.proofs.set_strategy.Statement.{statement}
 use Rattle.exceptionate.proofs.set_strategy.Tie as tie
 
-past_then3 : (c : tie.Then3) (t : Tables) {m : Move} →
-    let a = c.before.before.before.before.before.before.before.before.before.before.before.before.args in
+past_then3 : (c : tie.Then-not-has_strategy) (t : Tables) {m : Move} →
+    let a = c.args in
     thread_at t (slot a.thread) ≡ a.v → m ≡ move a.v (minus 20) →
     moved t a.thread m ≡ set_strategy t a.thread a.strategy
 unfolding set_strategy
 past_then3 c t h e = search (moving) depth 20
 
-past_else3 : (c : tie.Else3) (t : Tables) {m : Move} →
-    let a = c.before.before.before.before.before.before.before.before.before.before.before.before.args in
-    let w = c.before.before.before.before.before.before.before.before.w.given.0.0 in
-    let e = c.before.before.before.before.e.given.0.0 in
+past_else3 : (c : tie.Else-not-has_strategy) (t : Tables) {m : Move} →
+    let a = c.args in
+    let w = c.in-OldThread.w in
+    let e = c.in-Held.e in
     thread_at t (slot a.thread) ≡ a.v →
     m ≡ move (waits w w.state (InException (with_second e (a.strategy =? 1)))) (pos 0) →
     moved t a.thread m ≡ set_strategy t a.thread a.strategy
@@ -52,7 +52,7 @@ set_strategy_spec =
     (λ c t h. search moving depth 20)
     (λ c κs. search rules)
     (λ c κs. search rules)
-    (λ c t h. past_then3 c.before t h c.new5.ensures)
+    (λ c t h. past_then3 c.before t h c.new-then-not-has_strategy.ensures)
     (λ c κs. search rules)
     (λ c κs. search rules)
-    (λ c t h. past_else3 c.before.before t h (simp c.before.waits.ensures at c.new6.ensures)))
+    (λ c t h. past_else3 c.before.before t h (simp c.waits.ensures at c.new-2.ensures)))

@@ -15,9 +15,7 @@ create_child_spec =
     (λ c κs. search rules)
     (λ c κs. search rules)
     (λ c.
-    let a = c.before.before in
-    let b = a.before.before in
     c.made_in.ensures
-    ∙ c.before.create-child.ensures _ (sym b.before.before.job-at.ensures)
-    (sym b.before.own_at.ensures)
-    (sym b.inherited-at.ensures) (sym a.before.job-at2.ensures) (sym a.inherited-at2.ensures)))
+    ∙ c.create_child.ensures _ (sym c.job_at-j.ensures)
+    (sym c.own_at-own.ensures)
+    (sym c.inherited_at-inherited.ensures) (sym c.job_at-w.ensures) (sym c.inherited_at-held.ensures)))

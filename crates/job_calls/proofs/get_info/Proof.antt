@@ -13,8 +13,7 @@ get_info_spec =
     (λ c κs. search rules)
     (λ c κs. search rules)
     (λ c.
-    let a = c.before.before in
     c.showing.ensures
-    ∙ c.before.get-info.ensures _ (sym a.before.before.job-at.ensures)
-    (sym a.before.own_at.ensures)
-    (sym a.inherited-at.ensures)))
+    ∙ c.get_info.ensures _ (sym c.job_at-j.ensures)
+    (sym c.own_at-own.ensures)
+    (sym c.inherited_at-inherited.ensures)))

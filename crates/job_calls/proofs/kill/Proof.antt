@@ -12,7 +12,6 @@ kill_spec =
     (λ c κs. search rules)
     (λ c κs. search rules)
     (λ c.
-    let a = c.before.before in
-    c.killed-in.ensures
-    ∙ c.before.kill.ensures _ (sym a.before.before.before.job-at.ensures)
-    (λ h. sym a.kills-alone.ensures ∙ h)))
+    c.killed_in.ensures
+    ∙ c.kill.ensures _ (sym c.job_at-j.ensures)
+    (λ h. sym c.kills_alone-alone.ensures ∙ h)))

@@ -16,5 +16,5 @@ moved_spec =
     (λ c κs. search rules)
     (λ c.
     let w = c.before.before in
-    let f : SFits w64 w.before.before.before.before.args.m.answer = search rules in
-    simp (to_z-of_z {w = w64} f, w.with-own.ensures, w.before.with-job.ensures) at c.answered.ensures))
+    let f : SFits w64 c.args.m.answer = search rules in
+    simp (to_z-of_z {w = w64} f, c.with_own.ensures, c.with_job-u.ensures) at c.answered.ensures))

@@ -14,8 +14,6 @@ set_policy_spec =
     (λ c κs. search rules)
     (λ c κs. search rules)
     (λ c.
-    let a = c.before.before in
-    let b = a.before.before in
     c.moved.ensures
-    ∙ c.before.set-policy.ensures _ (sym b.before.job-at.ensures) (sym b.own_at.ensures)
-    (sym a.before.inherited-at.ensures) (sym a.job-empty.ensures)))
+    ∙ c.set_policy-m.ensures _ (sym c.job_at-j.ensures) (sym c.own_at-own.ensures)
+    (sym c.inherited_at-inherited.ensures) (sym c.job_empty-empty.ensures)))

@@ -13,7 +13,6 @@ set_policy_timer_slack_spec =
     (λ c κs. search rules)
     (λ c κs. search rules)
     (λ c.
-    let a = c.before.before in
     c.moved.ensures
-    ∙ c.before.set-policy-timer-slack.ensures _ (sym a.before.before.job-at.ensures)
-    (sym a.before.own_at.ensures) (sym a.job-empty.ensures)))
+    ∙ c.set_policy_timer_slack.ensures _ (sym c.job_at-j.ensures)
+    (sym c.own_at-own.ensures) (sym c.job_empty-empty.ensures)))

@@ -10,4 +10,4 @@ begin_wait_spec =
     (λ c κs. search rules)
     (λ c κs. search rules)
     (λ c κs. search rules)
-    (λ c. c.moved.ensures ∙ c.before.begin-wait.ensures _ (sym c.before.before.thread-at.ensures)))
+    (λ c. c.moved.ensures ∙ c.begin_wait.ensures _ (sym c.thread_at-v.ensures)))

@@ -10,4 +10,4 @@ finish_spec =
     (λ c κs. search rules)
     (λ c κs. search rules)
     (λ c κs. search rules)
-    (λ c. c.finished.ensures ∙ c.before.finish.ensures _ (sym c.before.before.thread-at.ensures)))
+    (λ c. c.finished.ensures ∙ c.finish.ensures _ (sym c.thread_at-v.ensures)))

@@ -10,5 +10,5 @@ get_thread_info_spec =
     (λ c κs. search rules)
     (λ c κs. search rules)
     (λ c κs. search rules)
-    (λ c. c.showing.ensures ∙ c.before.get-thread-info.ensures _
-    (sym c.before.before.thread-at.ensures)))
+    (λ c. c.showing.ensures ∙ c.get_thread_info.ensures _
+    (sym c.thread_at-v.ensures)))

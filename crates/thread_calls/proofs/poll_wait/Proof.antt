@@ -10,4 +10,4 @@ poll_wait_spec =
     (λ c κs. search rules)
     (λ c κs. search rules)
     (λ c κs. search rules)
-    (λ c. c.moved.ensures ∙ c.before.poll-wait.ensures _ (sym c.before.before.thread-at.ensures)))
+    (λ c. c.moved.ensures ∙ c.poll_wait.ensures _ (sym c.thread_at-v.ensures)))

@@ -10,4 +10,4 @@ start_spec =
     (λ c κs. search rules)
     (λ c κs. search rules)
     (λ c κs. search rules)
-    (λ c. c.moved.ensures ∙ c.before.start.ensures _ (sym c.before.before.thread-at.ensures)))
+    (λ c. c.moved.ensures ∙ c.start.ensures _ (sym c.thread_at-v.ensures)))
