@@ -13,5 +13,5 @@ on_exception_spec =
     (λ c κs. search rules)
     (λ c. search rules)
     (λ c κs. search rules)
-    (λ c t s h p j. rw c.before.before.c.given.1 (c.handle-exception.ensures t s h p j))
-    (λ c t s h p j. rw c.before.enum_told.given.1 (c.close.ensures t s h p j)))
+    (λ c t s h p j. rw c.in-Raise.is (c.handle_exception.ensures t s h p j))
+    (λ c t s h p j. rw c.in-Close.is (c.close.ensures t s h p j)))

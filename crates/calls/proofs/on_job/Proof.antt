@@ -28,20 +28,16 @@ on_job_spec =
     (λ c κs. search rules)
     (λ c κs. search rules)
     (λ c t h o i a.
-    let d = c.before in
-    let e = d.before.enum_told.given.1 in
-    rw e (job_kills t _ c.job-killed.ensures o (d.kill.ensures t h (λ b. (rw e at a) ∙ b))))
+    let e = c.in-KillJob.is in
+    rw e (job_kills t _ c.job_killed.ensures o (c.kill.ensures t h (λ b. (rw e at a) ∙ b))))
     (λ c t h o i a.
-    let d = c.before in
-    let e = d.before.before.c.given.1 in
-    rw e (job_sets t _ c.job-set.ensures (d.set-policy.ensures t h o i (rw e at a))))
+    let e = c.in-SetPolicy.is in
+    rw e (job_sets t _ c.job_set.ensures (c.set_policy.ensures t h o i (rw e at a))))
     (λ c t h o i a.
-    let d = c.before in
-    let e = d.before.before.c2.given.1 in
-    let z : SFits w64 d.before.before.c2.given.0.0 = search (rules, d.before.known-told2.given) in
-    let set = simp (to_z-of_z {w = w64} z) at (d.set-policy-timer-slack.ensures t h o (rw e at a)) in
-    rw e (job_sets t _ c.job-set2.ensures set))
+    let e = c.in-SetSlack.is in
+    let z : SFits w64 c.in-SetSlack.amount = search (rules, c.in-SetSlack.known_told-in-SetSlack-1-own.given) in
+    let set = simp (to_z-of_z {w = w64} z) at (c.set_policy_timer_slack.ensures t h o (rw e at a)) in
+    rw e (job_sets t _ c.job_set-in-SetSlack.ensures set))
     (λ c t h o i a.
-    let d = c.before in
-    rw d.before.before.c3.given.1
-    (job_moves t _ c.job_moved.ensures o (d.on-job.ensures t h ∙ level_step _ t _ _))))
+    rw c.in-JobChannel.is
+    (job_moves t _ c.job_moved.ensures o (c.on_job.ensures t h ∙ level_step _ t _ _))))

@@ -10,11 +10,11 @@ unfolding call_of thread_call process_call job_call of_process of_job if◌then�
 on_level_spec =
     tie.close
     (tie.spec
-    (λ c l. rw c.match.keys1)
-    (λ c l. rw c.match.keys2)
-    (λ c l. rw c.match.keys3)
-    (λ c l. rw c.match.keys4)
-    (λ c l. rw c.match.keys5)
+    (λ c l. rw c.in-1.is)
+    (λ c l. rw c.in-2.is)
+    (λ c l. rw c.in-3.is)
+    (λ c l. rw c.in-4.is)
+    (λ c l. rw c.in-5.is)
     (λ c l.
-    let r = c.match.rest in
+    let r = c.in_default.in_default-own.rest in
     rw (bad_is _ r.0.0.0.0.1 r.0.0.0.1 r.0.0.1 r.0.1 r.1)))

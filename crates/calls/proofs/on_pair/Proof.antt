@@ -13,5 +13,5 @@ on_pair_spec =
     (λ c κs. search rules)
     (λ c. search rules)
     (λ c κs. search rules)
-    (λ c t p h. rw c.before.enum_told.given.1 (c.start.ensures t p h))
-    (λ c t p h. rw c.before.enum-told2.given.1 (c.create-with-ext.ensures t p h)))
+    (λ c t p h. rw c.in-StartProcess.is (c.start.ensures t p h))
+    (λ c t p h. rw c.in-CreateThread.is (c.create_with_ext.ensures t p h)))

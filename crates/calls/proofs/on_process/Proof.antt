@@ -25,12 +25,12 @@ on_process_spec =
     (λ c κs. search rules)
     (λ c κs. search rules)
     (λ c t p j a.
-    let got : SFits w64 c.before.before.c.given.0.0 = search (rules, c.before.known-told.given) in
-    rw c.before.before.c.given.1 (simp (to_z-of_z {w = w64} got) at (c.exit.ensures t p)))
-    (λ c t p j a. rw c.before.enum_told.given.1 (c.kill.ensures t p))
+    let got : SFits w64 c.in-ExitWith.code = search (rules, c.in-ExitWith.known_told-1-own.given) in
+    rw c.in-ExitWith.is (simp (to_z-of_z {w = w64} got) at (c.exit.ensures t p)))
+    (λ c t p j a. rw c.in-KillProcess.is (c.kill.ensures t p))
     (λ c t p j a.
-    let i = c.before.before.before.c2.given.1 in
-    process_arm t _ _ i c.process-moved.ensures (c.before.set-critical-at-job.ensures t p j (rw i at a)))
+    let i = c.in-SetCritical.is in
+    process_arm t _ _ i c.process_moved.ensures (c.set_critical_at_job.ensures t p j (rw i at a)))
     (λ c t p j a.
-    process_arm t _ _ c.before.before.before.c3.given.1 c.process-moved2.ensures
-    (c.before.on-process.ensures t p ∙ level_step _ t _ _)))
+    process_arm t _ _ c.in-ProcessChannel.is c.process_moved-in-ProcessChannel.ensures
+    (c.on_process.ensures t p ∙ level_step _ t _ _)))

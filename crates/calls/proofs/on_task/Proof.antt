@@ -20,13 +20,13 @@ on_task_spec =
     (λ c. search rules)
     (λ c κs. search rules)
     (λ c κs. search rules)
-    (λ c t s k i g. let e = c.before.enum_told.given.1 in rw e (c.create.ensures t k (rw e at g)))
+    (λ c t s k i g. let e = c.in-CreateToken.is in rw e (c.create.ensures t k (rw e at g)))
     (λ c t s k i g.
-    let e = c.before.enum-told2.given.1 in
+    let e = c.in-DropToken.is in
     rw e (drop_arm _ t _ _ _ s k (rw e at i) (rw e at g) c.drop.result c.drop.ensures))
     (λ c t s k i g.
-    let e = c.before.before.enum-told3.given.1 in
-    rw e (task_moves _ t _ _ _ c.new.ensures k (c.before.suspend.ensures t (rw e at g))))
+    let e = c.in-Suspend.is in
+    rw e (task_moves _ t _ _ _ c.new.ensures k (c.suspend.ensures t (rw e at g))))
     (λ c t s k i g.
-    let e = c.before.before.enum-told4.given.1 in
-    rw e (task_moves _ t _ _ _ c.new2.ensures k (c.before.resume.ensures t (rw e at g)))))
+    let e = c.in-Resume.is in
+    rw e (task_moves _ t _ _ _ c.new-in-Resume.ensures k (c.resume.ensures t (rw e at g)))))

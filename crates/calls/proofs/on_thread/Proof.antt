@@ -41,30 +41,30 @@ on_thread_spec =
     (λ c κs. search rules)
     (λ c κs. search rules)
     (λ c t h.
-    thread_arm t _ c.before.before.enum_told.given.1 c.moved.ensures
-    (c.before.start.ensures t h))
+    thread_arm t _ c.in-Start.is c.moved.ensures
+    (c.start.ensures t h))
     (λ c t h.
-    thread_arm t _ c.before.before.enum-told2.given.1 c.moved2.ensures
-    (c.before.kill.ensures t h))
+    thread_arm t _ c.in-Kill.is c.moved-in-Kill.ensures
+    (c.kill.ensures t h))
     (λ c t h.
-    thread_arm t _ c.before.before.enum-told3.given.1 c.moved3.ensures
-    (c.before.exit.ensures t h))
-    (λ c t h. rw c.before.enum-told4.given.1 (c.finish.ensures t h))
+    thread_arm t _ c.in-Exit.is c.moved-in-Exit.ensures
+    (c.exit.ensures t h))
+    (λ c t h. rw c.in-Finish.is (c.finish.ensures t h))
     (λ c t h.
-    thread_arm t _ c.before.before.before.c.given.1 c.moved4.ensures
-    (c.before.set-state.ensures t h))
+    thread_arm t _ c.in-SetState.is c.moved-in-SetState.ensures
+    (c.set_state.ensures t h))
     (λ c t h.
-    thread_arm t _ c.before.before.before.c2.given.1 c.moved5.ensures
-    (c.before.set-strategy.ensures t h))
+    thread_arm t _ c.in-SetStrategy.is c.moved-in-SetStrategy.ensures
+    (c.set_strategy.ensures t h))
     (λ c t h.
-    thread_arm t _ c.before.before.enum-told5.given.1 c.moved6.ensures
-    (c.before.get-process-handle.ensures t h))
+    thread_arm t _ c.in-GetProcessHandle.is c.moved-in-GetProcessHandle.ensures
+    (c.get_process_handle.ensures t h))
     (λ c t h.
-    thread_arm t _ c.before.before.before.c3.given.1 c.moved7.ensures
-    (c.before.begin-wait.ensures t h))
+    thread_arm t _ c.in-BeginWait.is c.moved-in-BeginWait.ensures
+    (c.begin_wait.ensures t h))
     (λ c t h.
-    thread_arm t _ c.before.before.before.c4.given.1 c.moved8.ensures
-    (c.before.poll-wait.ensures t h))
+    thread_arm t _ c.in-PollWait.is c.moved-in-PollWait.ensures
+    (c.poll_wait.ensures t h))
     (λ c t h.
-    thread_arm t _ c.before.before.before.c5.given.1 c.moved9.ensures
-    (c.before.on-thread.ensures t h ∙ level_step _ t _ _)))
+    thread_arm t _ c.in-ThreadChannel.is c.moved-in-ThreadChannel.ensures
+    (c.on_thread.ensures t h ∙ level_step _ t _ _)))

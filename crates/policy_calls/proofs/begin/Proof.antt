@@ -11,4 +11,4 @@ begin_spec =
     (λ c κs. search rules)
     (λ c κs. search rules)
     (λ c κs. search rules)
-    (λ c. simp (c.before.inherited-at.ensures, c.before.before.own_at.ensures) at c.start.ensures))
+    (λ c. simp (c.inherited_at.ensures, c.own_at.ensures) at c.start.ensures))

@@ -13,7 +13,6 @@ finish_spec =
     (λ c κs. search rules)
     (λ c κs. search rules)
     (λ c.
-    let a = c.before.before in
     c.moved.ensures
-    ∙ c.before.settle-policy.ensures _ (sym a.before.before.job-at.ensures)
-    (sym a.before.own_at.ensures) (sym a.job-empty.ensures)))
+    ∙ c.settle_policy.ensures _ (sym c.job_at-j.ensures)
+    (sym c.own_at-own.ensures) (sym c.job_empty-empty.ensures)))

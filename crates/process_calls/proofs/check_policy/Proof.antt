@@ -12,6 +12,5 @@ check_policy_spec =
     (λ c κs. search rules)
     (λ c κs. search rules)
     (λ c.
-    let a = c.before.before in
     c.showing.ensures
-    ∙ c.before.check-policy.ensures _ (sym a.before.process-at.ensures) (sym a.fixed-at.ensures)))
+    ∙ c.check_policy.ensures _ (sym c.process_at-q.ensures) (sym c.fixed_at-fixed.ensures)))

@@ -15,9 +15,7 @@ create_with_ext_spec =
     (λ c κs. search rules)
     (λ c κs. search rules)
     (λ c.
-    let a = c.before.before in
-    let b = a.before.before in
     c.made_in.ensures
-    ∙ c.before.create-with-ext.ensures _ (sym b.before.before.job-at.ensures)
-    (sym b.before.own_at.ensures)
-    (sym b.inherited-at.ensures) (sym a.before.process-at.ensures) (sym a.fixed-at.ensures)))
+    ∙ c.create_with_ext.ensures _ (sym c.job_at-j.ensures)
+    (sym c.own_at-own.ensures)
+    (sym c.inherited_at-inherited.ensures) (sym c.process_at-q.ensures) (sym c.fixed_at-fixed.ensures)))

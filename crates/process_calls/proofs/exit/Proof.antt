@@ -13,7 +13,6 @@ exit_spec =
     (λ c κs. search rules)
     (λ c κs. search rules)
     (λ c.
-    let a = c.before.before in
-    c.exited-in.ensures
-    ∙ simp (to_z-of_z {w = w64} a.before.ranges.code) at
-    (c.before.exit.ensures _ (sym a.process-at.ensures))))
+    c.exited_in.ensures
+    ∙ simp (to_z-of_z {w = w64} c.ranges.code) at
+    (c.exit.ensures _ (sym c.process_at-q.ensures))))

@@ -17,13 +17,13 @@ exited_in_spec =
     (λ c κs. search rules)
     (λ c.
     let w = c.before.before.before.before in
-    let f : SFits w64 w.before.before.args.m.answer = search rules in
-    rw c.before.before.before.if1.true
-    (simp (to_z-of_z {w = w64} f, c.before.before.exit-listed.ensures, w.with-process.ensures) at
+    let f : SFits w64 c.args.m.answer = search rules in
+    rw c.if-m.true
+    (simp (to_z-of_z {w = w64} f, c.exit_listed.ensures, c.with_process-u.ensures) at
     c.answered.ensures))
     (λ c κs. search rules)
     (λ c.
     let w = c.before.before.before in
-    let f : SFits w64 w.before.before.args.m.answer = search rules in
-    rw c.before.before.if1.false
-    (simp (to_z-of_z {w = w64} f, w.with-process.ensures) at c.answered2.ensures)))
+    let f : SFits w64 c.args.m.answer = search rules in
+    rw c.if-m.false
+    (simp (to_z-of_z {w = w64} f, c.with_process-u.ensures) at c.answered-2.ensures)))

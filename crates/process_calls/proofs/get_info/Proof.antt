@@ -10,5 +10,5 @@ get_info_spec =
     (λ c κs. search rules)
     (λ c κs. search rules)
     (λ c κs. search rules)
-    (λ c. c.showing.ensures ∙ c.before.get-info.ensures _
-    (sym c.before.before.process-at.ensures)))
+    (λ c. c.showing.ensures ∙ c.get_info.ensures _
+    (sym c.process_at-q.ensures)))

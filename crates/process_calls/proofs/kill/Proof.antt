@@ -10,4 +10,4 @@ kill_spec =
     (λ c κs. search rules)
     (λ c κs. search rules)
     (λ c κs. search rules)
-    (λ c. c.exited-in.ensures ∙ c.before.kill.ensures _ (sym c.before.before.process-at.ensures)))
+    (λ c. c.exited_in.ensures ∙ c.kill.ensures _ (sym c.process_at-q.ensures)))

@@ -16,6 +16,6 @@ made_in_spec =
     (λ c κs. search rules)
     (λ c.
     let w = c.before.before in
-    let f : SFits w64 w.before.before.before.before.args.m.answer = search rules in
-    simp (to_z-of_z {w = w64} f, w.with-fixed.ensures, w.before.with-process.ensures) at
+    let f : SFits w64 c.args.m.answer = search rules in
+    simp (to_z-of_z {w = w64} f, c.with_fixed.ensures, c.with_process-u.ensures) at
     c.answered.ensures))

@@ -13,9 +13,7 @@ set_critical_at_job_spec =
     (λ c κs. search rules)
     (λ c κs. search rules)
     (λ c.
-    let a = c.before.before in
-    let b = a.before.before in
     c.moved.ensures
-    ∙ c.before.set-critical-at-job.ensures _ (sym b.before.process-at.ensures)
-    (sym b.job-at.ensures)
-    (sym (a.at-or-above.ensures _ refl))))
+    ∙ c.set_critical_at_job.ensures _ (sym c.process_at-q.ensures)
+    (sym c.job_at-j.ensures)
+    (sym (c.at_or_above-above.ensures _ refl))))

@@ -12,6 +12,5 @@ start_spec =
     (λ c κs. search rules)
     (λ c κs. search rules)
     (λ c.
-    let a = c.before.before in
-    c.both-moved.ensures ∙ c.before.start.ensures _ (sym a.before.process-at.ensures)
-    (sym a.thread-at.ensures)))
+    c.both_moved.ensures ∙ c.start.ensures _ (sym c.process_at-q.ensures)
+    (sym c.thread_at-v.ensures)))

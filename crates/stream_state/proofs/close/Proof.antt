@@ -12,32 +12,30 @@ use Rattle.stream_state.specs.State.{closing}
 use Rattle.stream_state.proofs.close.Statement.{statement}
 use Rattle.stream_state.proofs.close.Tie as tie
 
-returns : tie.Need-returns
+returns : tie.Need-returns-then-out-lt-LINE
 unfolding within if◌then◌else◌
 returns c =
-    (simp (lt-ltb _ _ c.if1.true) (record { end = refl; holds = refl }), (omega arith, refl))
+    (simp (lt-ltb _ _ c.if-out-lt-LINE.true) (record { end = refl; holds = refl }), (omega arith, refl))
 
-returns_2 : tie.Need-returns-2
+returns_2 : tie.Need-returns-then-left-eq0
 unfolding within closing if◌then◌else◌
 returns_2 c = (
   simp (
-    le-ltb _ _ c.before.if1.false,
-    eq-eqb _ _ c.if2.true,
+    le-ltb _ _ c.if-out-lt-LINE.false,
+    eq-eqb _ _ c.if-left-eq0.true,
   ) (record { end = refl; holds = refl }),
   (omega arith, refl),
 )
 
-returns_3 : tie.Need-returns-3
+returns_3 : tie.Need-returns
 unfolding within closing if◌then◌else◌
 returns_3 c =
-    let p = c.before.before in
-    let two = p.before.before.before in
-    let n = p.before.next-number.ensures in
-    let room = two.before.if1.false in
-    let h : 128 ≤ length two.before.before.before.before.args.out.now - 0 = omega (arith, room) in
-    let b : p.put-stop.result ≤ length p.put-stop.new.0 =
-    omega (arith, p.put-stop.ensures.1, p.put-stop.auto.0, room) in (
-      simp (le-ltb _ _ room, ne_eqb _ _ two.if2.false, ← n) (roomy h p.put-stop.ensures.0),
+    let n = c.next_number.ensures in
+    let room = c.if-out-lt-LINE.false in
+    let h : 128 ≤ length c.args.out.now - 0 = omega (arith, room) in
+    let b : c.put_stop.result ≤ length c.put_stop.new.out =
+    omega (arith, c.put_stop.ensures.1, c.put_stop.auto.out, room) in (
+      simp (le-ltb _ _ room, ne_eqb _ _ c.if-left-eq0.false, ← n) (roomy h c.put_stop.ensures.0),
       (b, sym (length-take-le _ _ b)),
     )
 

@@ -3,4 +3,4 @@ use Rattle.stream_state.proofs.fresh.Statement.{statement}
 use Rattle.stream_state.proofs.fresh.Tie as tie
 
 pub fresh_spec : {M : Type 1} → statement M
-fresh_spec = tie.close (tie.spec (λ c κs. search rules) (λ c. simp c.fresh-tables.ensures))
+fresh_spec = tie.close (tie.spec (λ c κs. search rules) (λ c. simp c.fresh_tables.ensures))
