@@ -9,4 +9,4 @@ create_channel_spec =
     tie.close
     (tie.spec
     (λ c κs. search rules)
-    (λ c. c.on-level.ensures))
+    (λ c. c.on_level.ensures))

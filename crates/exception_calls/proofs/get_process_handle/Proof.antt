@@ -10,5 +10,5 @@ get_process_handle_spec =
     (λ c κs. search rules)
     (λ c κs. search rules)
     (λ c κs. search rules)
-    (λ c. c.moved.ensures ∙ c.before.get-process-handle.ensures _
-    (sym c.before.before.thread-at.ensures)))
+    (λ c. c.moved.ensures ∙ c.get_process_handle.ensures _
+    (sym c.thread_at-v.ensures)))

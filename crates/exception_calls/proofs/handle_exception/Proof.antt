@@ -14,9 +14,8 @@ handle_exception_spec =
     (λ c κs. search rules)
     (λ c κs. search rules)
     (λ c.
-    let q = c.before.before.before in
-    let o = q.before.before.before.well-formed.0.1.1 in
-    let t : Sized q.before.before.before.args.t =
+    let o = c.well_formed.0.1.1 in
+    let t : Sized c.args.t =
     record {
       jobs = search (length_mapped, o.0);
       own = search (length_mapped, o.1.0);
@@ -27,5 +26,5 @@ handle_exception_spec =
       tokens = search (length_mapped, o.1.1.1.1.1.1.0);
     } in
     c.raised.ensures
-    ∙ c.before.handle-exception.ensures _ t (sym q.before.before.thread-at.ensures)
-    (sym q.process-at.ensures) refl))
+    ∙ c.handle_exception.ensures _ t (sym c.thread_at-v.ensures)
+    (sym c.process_at-q.ensures) refl))

@@ -14,5 +14,5 @@ job_moved_spec =
     (λ c κs. search rules)
     (λ c κs. search rules)
     (λ c.
-    let f : SFits w64 c.before.before.before.before.args.m.answer = search rules in
-    simp (to_z-of_z {w = w64} f, c.before.before.with-job.ensures) at c.answered.ensures))
+    let f : SFits w64 c.args.m.answer = search rules in
+    simp (to_z-of_z {w = w64} f, c.with_job.ensures) at c.answered.ensures))

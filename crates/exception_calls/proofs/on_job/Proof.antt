@@ -10,4 +10,4 @@ on_job_spec =
     (λ c κs. search rules)
     (λ c κs. search rules)
     (λ c κs. search rules)
-    (λ c. c.job_moved.ensures ∙ c.before.on-job.ensures _ (sym c.before.before.job-at.ensures)))
+    (λ c. c.job_moved.ensures ∙ c.on_job.ensures _ (sym c.job_at-j.ensures)))

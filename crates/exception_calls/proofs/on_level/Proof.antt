@@ -16,11 +16,11 @@ on_level_spec =
     (λ c κs. search rules)
     (λ c κs. search rules)
     (λ c κs. search rules)
-    (λ c. rw c.before.match.keys1 c.on-process.ensures)
-    (λ c. rw c.before.match.keys2 c.on-thread.ensures)
-    (λ c. rw c.before.match.keys3 c.on-process2.ensures)
-    (λ c. rw c.before.match.keys4 c.on-job.ensures)
-    (λ c. rw c.before.match.keys5 c.on-job2.ensures)
+    (λ c. rw c.in-1.is c.on_process.ensures)
+    (λ c. rw c.in-2.is c.on_thread.ensures)
+    (λ c. rw c.in-3.is c.on_process-in-3.ensures)
+    (λ c. rw c.in-4.is c.on_job.ensures)
+    (λ c. rw c.in-5.is c.on_job-in-5.ensures)
     (λ c.
-    let r = c.before.match.rest in
+    let r = c.in_default.in_default-own.rest in
     no_level _ _ _ _ r.0.0.0.0.1 r.0.0.0.1 r.0.0.1 r.0.1 r.1 c.answered.ensures))

@@ -10,5 +10,5 @@ on_process_spec =
     (λ c κs. search rules)
     (λ c κs. search rules)
     (λ c κs. search rules)
-    (λ c. c.moved.ensures ∙ c.before.on-process.ensures _
-    (sym c.before.before.process-at.ensures)))
+    (λ c. c.moved.ensures ∙ c.on_process.ensures _
+    (sym c.process_at-q.ensures)))

@@ -10,4 +10,4 @@ on_thread_spec =
     (λ c κs. search rules)
     (λ c κs. search rules)
     (λ c κs. search rules)
-    (λ c. c.moved.ensures ∙ c.before.on-thread.ensures _ (sym c.before.before.thread-at.ensures)))
+    (λ c. c.moved.ensures ∙ c.on_thread.ensures _ (sym c.thread_at-v.ensures)))

@@ -18,22 +18,20 @@ raised_spec =
     (λ c κs. search rules)
     (λ c κs. search rules)
     (λ c.
-    let p = c.before.before.before.before in
-    let a = p.before.before.before.before.before.before.args in
+    let a = c.args in
     let f : SFits w64 a.m.answer = search rules in
-    rw c.before.before.before.if1.true
+    rw c.if-m.true
     (simp (
       to_z-of_z {w = w64} f,
-      c.before.before.exit-listed.ensures,
-      p.with-process.ensures,
-      p.before.with-thread.ensures,
+      c.exit_listed.ensures,
+      c.with_process-t.ensures,
+      c.with_thread-t.ensures,
     ) at
-    c.with-fields.ensures))
+    c.with_fields.ensures))
     (λ c κs. search rules)
     (λ c.
-    let p = c.before.before.before in
-    let a = p.before.before.before.before.before.before.args in
+    let a = c.args in
     let f : SFits w64 a.m.answer = search rules in
-    rw c.before.before.if1.false
-    (simp (to_z-of_z {w = w64} f, p.with-process.ensures, p.before.with-thread.ensures) at
-    c.with-fields2.ensures)))
+    rw c.if-m.false
+    (simp (to_z-of_z {w = w64} f, c.with_process-t.ensures, c.with_thread-t.ensures) at
+    c.with_fields-2.ensures)))

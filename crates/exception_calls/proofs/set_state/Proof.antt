@@ -10,4 +10,4 @@ set_state_spec =
     (λ c κs. search rules)
     (λ c κs. search rules)
     (λ c κs. search rules)
-    (λ c. c.moved.ensures ∙ c.before.set-state.ensures _ (sym c.before.before.thread-at.ensures)))
+    (λ c. c.moved.ensures ∙ c.set_state.ensures _ (sym c.thread_at-v.ensures)))

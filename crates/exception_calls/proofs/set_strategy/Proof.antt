@@ -10,5 +10,5 @@ set_strategy_spec =
     (λ c κs. search rules)
     (λ c κs. search rules)
     (λ c κs. search rules)
-    (λ c. c.moved.ensures ∙ c.before.set-strategy.ensures _
-    (sym c.before.before.thread-at.ensures)))
+    (λ c. c.moved.ensures ∙ c.set_strategy.ensures _
+    (sym c.thread_at-v.ensures)))
