@@ -1,5 +1,6 @@
 // buffer: the recorder called on the bytes at the front of a buffer. Its lines are at the front of another buffer,
 // and the bytes that it did not use are kept, none lost and none changed.
+#![tactic(auto)]
 ghost use Rattle.std.specs.Prelude.{◌-◌, ◌≤◌, min, ◌≡◌, length, take, drop};
 ghost use Rattle.io.specs.Counts.{IsPrefixLen};
 ghost use Rattle.stream_state.specs.Recorder.{fed};

@@ -1,5 +1,6 @@
 // calls: a command's bytes as a call by the records that it names, and the calls on the same records as one function.
 // specs/Calls.antt says which bytes stand for which call, specs/Groups.antt what a group means.
+#![tactic(auto)]
 ghost use Rattle.std.specs.Prelude.{◌≡◌, false};
 ghost use Rattle.commands.specs.Commands.{fifteen_at};
 ghost use Rattle.model.specs.Step.{step};

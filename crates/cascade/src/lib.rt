@@ -1,6 +1,7 @@
 // cascade: killing a job, exiting a process and ending a process, which call one another. Follows job.rs and
 // process.rs. Each of the three has one local of the tables and indexes none: the deepest cascade stays small on the
 // stack.
+#![tactic(auto)]
 ghost use Rattle.std.specs.Prelude.{◌≡◌, ◌≤◌};
 ghost use Rattle.record_job.specs.Job.{child_of};
 ghost use Rattle.record_process.specs.Process.{member_of};

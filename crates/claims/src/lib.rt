@@ -1,5 +1,6 @@
 // claims: what holds of all lists of calls: the invariants of every state, that a trip which loses its species reader
 // stops whole, where a closed exception goes, and that no trip meddles with another. specs/ says it.
+#![tactic(auto)]
 ghost use Rattle.std.specs.Prelude.{true, ◌≡◌};
 ghost use Rattle.claims.specs.Closings.{Closings};
 ghost use Rattle.claims.specs.Reachable.{Reachable};

@@ -1,5 +1,6 @@
 // commands: the bytes of the recorder's commands: how many each has, and its operands, little-endian.
 // Past the end of its bytes a command has zeros: no reader relies on its caller.
+#![tactic(auto)]
 ghost use Rattle.std.specs.Prelude.{◌≡◌};
 ghost use Rattle.commands.specs.Commands.{byte, half, word, long, signed64, pair_at, fifteen_at};
 ghost use Rattle.commands.specs.Commands.{size_of, next_of};

@@ -1,5 +1,6 @@
 // error: the numbers with which a call is answered. `ZxError` has those of error.rs that document 01 names, unchanged;
 // `Refusal` has the port's own, by which a call is turned back before the Rust would be asked.
+#![tactic(auto)]
 
 #[derive(Drop)]
 pub struct ZxError;

@@ -1,5 +1,6 @@
 // exception: raising an exception (14) and closing one (15), over the records that they name. One search finds the next
 // handler for both. Follows exception.rs. specs/Raise.antt says what is given means for the tables.
+#![tactic(auto)]
 ghost use Rattle.std.specs.Prelude.{◌≡◌};
 ghost use Rattle.model.specs.Exception.{route_of, is_no_type};
 ghost use Rattle.model.specs.ExceptionCalls.{raise_exception, close_exception};

@@ -1,6 +1,7 @@
 // exception_calls: the calls on exceptions and their channels, on the tables by value: 12 to 18. Each reads the records
 // that it names, asks crate exception or exceptionate, and stores what that gives. What each comes to is in
 // model/specs/ExceptionCalls.antt.
+#![tactic(auto)]
 ghost use Rattle.std.specs.Prelude.{◌≡◌};
 ghost use Rattle.model.specs.ExceptionCalls.{bind_level, hang_up_level, raise_exception, close_exception};
 ghost use Rattle.model.specs.ExceptionCalls.{set_state, set_strategy, get_process_handle};

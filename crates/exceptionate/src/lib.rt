@@ -1,5 +1,6 @@
 // exceptionate: the calls on a handler's channel and on a thread's exception, over the record that they name. Follows
 // exception.rs. Each call stands here once: its refusals in document 01's order, then its effect.
+#![tactic(auto)]
 ghost use Rattle.std.specs.Prelude.{◌≡◌};
 ghost use Rattle.model.specs.ExceptionCalls.{bind_level, hang_up_level};
 ghost use Rattle.model.specs.ExceptionCalls.{set_state, has_strategy, set_strategy, get_process_handle};

@@ -1,5 +1,6 @@
 // job: the calls on a job, over the records that they name. Follows job.rs. Each call stands here once: its refusals in
 // document 01's order, then its effect. specs/Job.antt says what is given means for the tables.
+#![tactic(auto)]
 ghost use Rattle.std.specs.Prelude.{take, ◌≡◌};
 ghost use Rattle.model.specs.JobCalls.{create_child, kill_job_call, set_policy_basic, set_policy_timer_slack};
 ghost use Rattle.model.specs.JobCalls.{job_information};

@@ -1,5 +1,6 @@
 // job_calls: the calls on a job, on the tables by value: 01, 02, 0f, 10 and 1b. Each reads the records that it names,
 // asks crate job, and stores what that gives. What each comes to is in model/specs/JobCalls.antt.
+#![tactic(auto)]
 ghost use Rattle.std.specs.Prelude.{take, ◌≡◌};
 ghost use Rattle.model.specs.JobCalls.{create_child, kill_job_call, set_policy_basic, set_policy_timer_slack};
 ghost use Rattle.model.specs.JobCalls.{job_information};

@@ -1,5 +1,6 @@
 // job_policy: the policy of a job by value, and its timer slack. Follows job_policy.rs.
 // Conditions, actions and modes are numbers; one outside its list changes nothing and finds nothing.
+#![tactic(auto)]
 ghost use Rattle.std.specs.Prelude.{true, ◌≡◌};
 ghost use Rattle.job_policy.specs.Policy.{no_policy, get_action, apply, merged_action, merge};
 ghost use Rattle.job_policy.specs.Policy.{Cases};

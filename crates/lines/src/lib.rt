@@ -1,5 +1,6 @@
 // lines: a reply as a line of text in a lent buffer. No line has more than 128 bytes; none is begun with less room.
 // Each function writes at a place and answers the place after what it wrote; a private one requires its room.
+#![tactic(auto)]
 ghost use Rattle.std.specs.Prelude.{◌≡◌, [], ◌∷◌, ◌++◌, ◌+◌, ◌-◌, ◌<◌, ◌≤◌, length};
 ghost use Rattle.job_policy.specs.Policy.{no_policy};
 ghost use Rattle.reply.specs.declared.Fields.TheVariants.{NoFields};

@@ -1,4 +1,5 @@
 // lists: whether a job lists a child or a process, over the one table that is looked at.
+#![tactic(auto)]
 ghost use Rattle.std.specs.Prelude.{not, ◌≡◌, get_or};
 ghost use Rattle.laws.specs.Choice.{◌and◌};
 ghost use Rattle.laws.specs.Lists.{any};

@@ -1,5 +1,6 @@
 // policy_calls: 0f with a lent list of any length: `Job::set_policy_basic`. One pass notes what each entry brings; the
 // refusals are answered after it, by crate job. Follows job.rs; by value `job_calls::set_policy` takes up to fifteen.
+#![tactic(auto)]
 ghost use Rattle.std.specs.Prelude.{◌≡◌};
 ghost use Rattle.model.specs.JobCalls.{set_policy_basic};
 ghost use Rattle.job.specs.Work.{begin_work, step_work, finish_work};

@@ -1,5 +1,6 @@
 // process: the calls on a process, over the records that they name. Follows process.rs. Each call stands here once: its
 // refusals in document 01's order, then its effect. specs/Process.antt says what is given means for the tables.
+#![tactic(auto)]
 ghost use Rattle.std.specs.Prelude.{◌≡◌};
 ghost use Rattle.model.specs.JobCalls.{create_process, start_process, exit_process_call, kill_process};
 ghost use Rattle.model.specs.JobCalls.{set_critical_at_job, check_policy, process_information};

@@ -1,5 +1,6 @@
 // process_calls: the calls on a process, on the tables by value: 03 to 07, 11 and 1c. Each reads the records that it
 // names, asks crate process, and stores what that gives. What each comes to is in model/specs/JobCalls.antt.
+#![tactic(auto)]
 ghost use Rattle.std.specs.Prelude.{◌≡◌};
 ghost use Rattle.model.specs.JobCalls.{create_process, start_process, exit_process_call, kill_process};
 ghost use Rattle.model.specs.JobCalls.{set_critical_at_job, check_policy, process_information};

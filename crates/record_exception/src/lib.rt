@@ -1,5 +1,6 @@
 // record_exception: a level of an exception channel (Exceptionate of exception.rs), and an exception that a handler
 // holds, with the place in the order of handlers where it was delivered.
+#![tactic(auto)]
 ghost use Rattle.std.specs.Prelude.{◌≡◌};
 ghost use Rattle.record_exception.specs.Channel.{is_bound, is_shut, tried};
 ghost use Rattle.record_exception.specs.Exception.{level_of, current_level, exception_at};

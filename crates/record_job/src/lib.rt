@@ -1,4 +1,5 @@
 // record_job: the record of a job. Its policies stand in tables of their own, beside the jobs.
+#![tactic(auto)]
 ghost use Rattle.std.specs.Prelude.{◌≡◌};
 ghost use Rattle.record_job.specs.Job.{found_job_in};
 ghost use Rattle.record_job.specs.Job.{no_job, root_job, new_job, killed, terminated};

@@ -1,4 +1,5 @@
 // record_process: the record of a process. The policy fixed at its making stands in a table beside the processes.
+#![tactic(auto)]
 ghost use Rattle.std.specs.Prelude.{◌≡◌};
 ghost use Rattle.record_process.specs.Process.{is_init, is_exited, is_critical, acts};
 ghost use Rattle.record_process.specs.Process.{found_process_in};

@@ -1,4 +1,5 @@
 // record_thread: the record of a thread, and what a single call does to it. States are numbers, as in ThreadState.
+#![tactic(auto)]
 ghost use Rattle.std.specs.Prelude.{◌≡◌};
 ghost use Rattle.record_thread.specs.Thread.{found_thread_in};
 ghost use Rattle.record_thread.specs.Thread.{no_thread, new_thread, thread_of};

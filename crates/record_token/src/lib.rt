@@ -1,4 +1,5 @@
 // record_token: the record of a suspend token: the task that it holds, by kind and name. A dropped one holds nothing.
+#![tactic(auto)]
 ghost use Rattle.std.specs.Prelude.{◌≡◌};
 ghost use Rattle.record_token.specs.SuspendToken.{found_token_in};
 ghost use Rattle.record_token.specs.SuspendToken.{no_token, new_token, drop};

@@ -1,6 +1,7 @@
 // recorder: a stream of commands, taken in parts of any size, and the lines that are written for it.
 // stream_state/specs/Recorder.antt says what is written for a part; that no cut into parts changes the whole is in
 // `stream`.
+#![tactic(auto)]
 ghost use Rattle.std.specs.Prelude.{◌≡◌, ◌≤◌, length};
 ghost use Rattle.io.specs.Counts.{IsPrefixLen};
 ghost use Rattle.stream_state.specs.Recorder.{fed, Feeds};

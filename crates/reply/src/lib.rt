@@ -1,4 +1,5 @@
 // reply: what a call answers: a number, the fields that follow it, and the tables.
+#![tactic(auto)]
 ghost use Rattle.std.specs.Prelude.{◌≡◌};
 ghost use Rattle.reply.specs.Reply.{reply, answered, showing, shown_answer, shown_fields};
 

@@ -1,5 +1,6 @@
 // stream: what holds of the recorder's definitions for a whole stream of commands.
 // specs/Stream.antt says what is written for it, and that no cut into parts changes it.
+#![tactic(auto)]
 ghost use Rattle.std.specs.Prelude.{true, ◌≡◌};
 ghost use Rattle.stream.specs.Stream.{Stream};
 

@@ -1,5 +1,6 @@
 // stream_state: where a stream of commands stands, the number of its next line, and its end.
 // specs/Recorder.antt says what is written for a part of a stream, specs/State.antt what at the end of the input.
+#![tactic(auto)]
 ghost use Rattle.std.specs.Prelude.{◌≡◌, length};
 ghost use Rattle.io.specs.Counts.{IsPrefixLen};
 ghost use Rattle.lines.specs.Line.{Put};

@@ -3,6 +3,7 @@
 // in document 01's order, then its effect. Kind 1 is a process, and each thread that it lists is concerned: `barred`
 // says whether the count of one stands in the way, and `each` that each is to be changed. specs/SuspendToken.antt
 // says what is given means for the tables.
+#![tactic(auto)]
 ghost use Rattle.std.specs.Prelude.{false, ◌≡◌};
 ghost use Rattle.records.specs.Owners.{tasks_of};
 ghost use Rattle.model.specs.ThreadCalls.{create_token_call, drop_token_call, suspend_call, resume_call};

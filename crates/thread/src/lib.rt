@@ -1,5 +1,6 @@
 // thread: the calls on one thread, over its record alone, and its making. Follows thread.rs. Each call stands here
 // once: its refusals in document 01's order, then its effect. specs/Move.antt says what a move means for the tables.
+#![tactic(auto)]
 ghost use Rattle.std.specs.Prelude.{◌≡◌};
 ghost use Rattle.model.specs.ThreadCalls.{start_thread, kill_thread, exit_thread, finish_thread_call};
 ghost use Rattle.model.specs.ThreadCalls.{thread_information, waiting_level, begin_wait, poll_wait};

@@ -1,5 +1,6 @@
 // thread_calls: the calls on a thread, on the tables by value: 08 to 0c, 19, 1a and 1d. Each reads the records that it
 // names, asks crate thread, and stores what that gives. What each comes to is in model/specs/ThreadCalls.antt.
+#![tactic(auto)]
 ghost use Rattle.std.specs.Prelude.{◌≡◌};
 ghost use Rattle.model.specs.ThreadCalls.{create_thread, start_thread, kill_thread, exit_thread, finish_thread_call};
 ghost use Rattle.model.specs.ThreadCalls.{begin_wait, poll_wait, thread_information};

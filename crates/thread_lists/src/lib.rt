@@ -1,5 +1,6 @@
 // thread_lists: the threads that a process lists, over the table of threads by itself: whether there is one, and a
 // change of each.
+#![tactic(auto)]
 ghost use Rattle.std.specs.Prelude.{map, ◌≡◌};
 ghost use Rattle.laws.specs.Lists.{any};
 ghost use Rattle.record_thread.specs.Thread.{thread_of};

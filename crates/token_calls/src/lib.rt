@@ -1,6 +1,7 @@
 // token_calls: suspending and resuming a task, and tokens, on the tables by value: 0d, 0e, 1e and 1f. Each reads the
 // records that it names, asks crate suspend_token, and stores what that gives. What each comes to is in
 // model/specs/ThreadCalls.antt.
+#![tactic(auto)]
 ghost use Rattle.std.specs.Prelude.{◌≡◌};
 ghost use Rattle.model.specs.ThreadCalls.{create_token_call, drop_token_call, suspend_call, resume_call};
 ghost use Rattle.token_calls.specs.TokenCalls.{of_each, changed_to, task_to, token_to};

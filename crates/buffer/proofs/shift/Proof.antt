@@ -6,10 +6,10 @@ use Rattle.buffer.proofs.Shifting.{Moved, moves_none, moves_one}
 use Rattle.buffer.proofs.shift.Statement.{statement}
 use Rattle.buffer.proofs.shift.Tie as tie
 
-abbrev invariant_loop : tie.invariant-loop
+abbrev invariant_loop : tie.invariant-loop-i
 invariant_loop buf₀ have n from i₀ buf i = (i ≤ n) × Moved buf₀ buf from i
 
-abbrev decreases_loop : tie.decreases-loop
+abbrev decreases_loop : tie.decreases-loop-i
 decreases_loop buf₀ have n from i₀ buf i = n - i
 
 pub shift_spec : {M : Type 1} → statement M
@@ -26,10 +26,8 @@ shift_spec =
     (λ c. omega arith)
     (λ c. omega arith)
     (λ c.
-    let l = c.before.before in
-    (omega arith, moves_one _ _ _ _ l.loop.invariant.1 (omega (arith, l.loop.invariant.1.same))))
-    (λ c. c.before.loop.invariant.1.same)
+    (omega arith, moves_one _ _ _ _ c.loop-i.invariant.1 (omega (arith, c.loop-i.invariant.1.same))))
+    (λ c. c.loop-i.invariant.1.same)
     (λ c.
-    let l = c.before in
-    let e : l.loop.i ≡ l.before.args.n = omega arith in
-    rw e at l.loop.invariant.1.front))
+    let e : c.loop-i.i ≡ c.args.n = omega arith in
+    rw e at c.loop-i.invariant.1.front))
