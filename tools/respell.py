@@ -21,6 +21,8 @@ NAMED = re.compile(rf"^ *{MARKS}(data|record|ruleset) ({NAME})")
 MORE = re.compile(r"^\s+\S")
 USE = re.compile(r"\buse ([^\s;{]+?)\.?(?:\{([^}]*)\})?(?: as (\S+))?\s*;?\s*$", re.M)
 GENERATED = {"statement", "close", "spec", "tie", "goal", "rules", "c"}
+# The library has an operator of this name that means a choice too; ours waits until it is unfolded.
+CHOICE, NEW_CHOICE = "if◌then◌else◌", "if◌then◌otherwise◌"
 # A definition of proofs/ whose plain name a constructor has.
 OTHERWISE = {"foundIn": "search_found", "Waits-at": "WaitsAt"}
 
@@ -119,13 +121,30 @@ def respell(path, text, turned, fields):
     return TOKEN.sub(one, text)
 
 
+def choices(path, text):
+    """The choice between two values under its new name. In a text `else` stands for nothing but this operator."""
+    if path.endswith(".rt"):
+        return text.replace(CHOICE, NEW_CHOICE)
+    text = text.replace(CHOICE, NEW_CHOICE)
+    if "file: src/" in text:
+        return text
+
+    def line(of):
+        whole = of[0]
+        is_term = not whole.lstrip().startswith("--") or " then " in whole
+        is_said = path.endswith(".edit") and not re.match(r"(old|new): ", whole)
+        return whole if is_said or not is_term else re.sub(r"(?<![^\s(])else(?![^\s)])", "otherwise", whole)
+
+    return re.sub(r"(?m)^.*$", line, text)
+
+
 def main():
     top = sys.argv[1] if len(sys.argv) > 1 else "."
     turned, fields = table(top)
     count = 0
     for path in files(top, (".antt", ".rt", ".edit")):
         old = read(path)
-        new = respell(path, old, turned, fields)
+        new = choices(path, respell(path, old, turned, fields))
         if new != old:
             count += 1
             with open(path, "w", encoding="utf-8") as f:

@@ -13,7 +13,7 @@ use lib.IntN.{ℤ}
 use lib.ListN.{take}
 use lib.Seq.{take-append-le}
 use borrow.Author.Tests.{ltb-false, ne_eqb}
-use Rattle.laws.specs.Choice.{◌=?◌, ◌<?◌, ◌or◌, if◌then◌else◌}
+use Rattle.laws.specs.Choice.{◌=?◌, ◌<?◌, ◌or◌, if◌then◌otherwise◌}
 use Rattle.job_policy.specs.declared.BasicPolicy.{BasicPolicy}
 use Rattle.commands.specs.Commands.{byte, pairs_at, no_pair, fifteen_at}
 use Rattle.model.specs.Step.{cmd0f, cmd10}
@@ -33,7 +33,7 @@ pub no_other : (n a b c : ℕ) (bs : List ℕ) → (n ≡ 1 → ⊥) → (n ≡ 
     (n ≡ 19 → ⊥) → (n ≡ 20 → ⊥) → (n ≡ 21 → ⊥) → (n ≡ 22 → ⊥) → (n ≡ 23 → ⊥) → (n ≡ 24 → ⊥) → (n ≡ 25 → ⊥) →
     (n ≡ 26 → ⊥) → (n ≡ 27 → ⊥) → (n ≡ 28 → ⊥) → (n ≡ 29 → ⊥) → (n ≡ 30 → ⊥) → (n ≡ 31 → ⊥) →
     call_by n a b c bs ≡ no_call
-unfolding call_by if◌then◌else◌
+unfolding call_by if◌then◌otherwise◌
 no_other n a b c bs h1 h2 h3 h4 h5 h6 h7 h8 h9 h10 h11 h12 h13 h14 h15 h16 h17 h18 h19 h20 h21 h22 h23 h24 h25
     h26 h27 h28 h29 h30 h31 =
     rw (
@@ -77,15 +77,15 @@ no_pairs : List BasicPolicy
 no_pairs = no_pair ∷ no_pair ∷ no_pair ∷ no_pair ∷ no_pair ∷ no_pair ∷ no_pair ∷ no_pair ∷ no_pair ∷ no_pair ∷ no_pair ∷ []
 
 by_count : (above : Bool) (j option n : ℕ) (bs : List ℕ) → (above ≡ false → n ≤ 4) →
-    call_of (if above then NoCall else OnJob (SetPolicy option n) j) (fifteen_at bs)
-    ≡ (if above then no_call else called (cmd0f j option (take n (pairs_at bs))))
-unfolding call_of job_call if◌then◌else◌ no_pairs
+    call_of (if above then NoCall otherwise OnJob (SetPolicy option n) j) (fifteen_at bs)
+    ≡ (if above then no_call otherwise called (cmd0f j option (take n (pairs_at bs))))
+unfolding call_of job_call if◌then◌otherwise◌ no_pairs
 by_count true j option n bs h = refl
 by_count false j option n bs h =
     ap (λ (l : List BasicPolicy). called (cmd0f j option l)) (take-append-le n (pairs_at bs) no_pairs (h refl))
 
 pub policy_call : (j option n : ℕ) (bs : List ℕ) {r : Command} → r ≡ policy_command j option n →
-    call_of r (fifteen_at bs) ≡ (if 4 <? n then no_call else called (cmd0f j option (take n (pairs_at bs))))
+    call_of r (fifteen_at bs) ≡ (if 4 <? n then no_call otherwise called (cmd0f j option (take n (pairs_at bs))))
 unfolding policy_command
 policy_call j option n bs e = rw e (by_count (4 <? n) j option n bs (λ h. ltb-false 4 n h))
 
@@ -97,8 +97,8 @@ slack_call j p q = rw (p, q)
 -- ---- 12, 13 --------------------------------------------------------------------------------------------
 
 by_tests : (zeroth above : Bool) (n : ℕ) → (zeroth ≡ false → above ≡ false → 0 ≡ n) →
-    (if zeroth or above then n else 0) ≡ n
-unfolding ◌or◌ if◌then◌else◌
+    (if zeroth or above then n otherwise 0) ≡ n
+unfolding ◌or◌ if◌then◌otherwise◌
 by_tests true above n h = refl
 by_tests false true n h = refl
 by_tests false false n h = h refl refl

@@ -8,7 +8,7 @@ use Prim.Native.Nat.{ℕ, ◌%◌}
 use mathlib.Core.Path.{◌≡◌, refl, sym, ◌∙◌, ap}
 use mathlib.Core.Bool.{Bool, true, false}
 use mathlib.Core.List.{List}
-use Rattle.laws.specs.Choice.{if◌then◌else◌}
+use Rattle.laws.specs.Choice.{if◌then◌otherwise◌}
 use Rattle.job_policy.specs.declared.JobPolicy.{JobPolicy}
 use Rattle.record_job.specs.declared.Job.{Job}
 use Rattle.record_process.specs.declared.Process.{Process}
@@ -53,7 +53,7 @@ level_step HangUp t level n = refl
 
 thread_moves : (t : Tables) (n : ℕ) {m : of-threads.Move} {r : Finishing} {x : Reply} →
     r ≡ thread.finishing m.thread m.answer false → thread.moved t n m ≡ x → thread.finished t n r ≡ x
-unfolding thread.moved thread.finished if◌then◌else◌
+unfolding thread.moved thread.finished if◌then◌otherwise◌
 thread_moves t n e h = rw e h
 
 -- c is the call, d the arm that it takes
@@ -64,7 +64,7 @@ thread_arm t n i e h = rw i (thread_moves t n e h)
 
 process_moves : (t : Tables) (p : ℕ) {m : of-processes.Move} {r : Exiting} {x : Reply} →
     r ≡ process.exiting m.process m.answer false → process.moved t p m ≡ x → process.exited_in t p r ≡ x
-unfolding process.moved process.exited_in if◌then◌else◌
+unfolding process.moved process.exited_in if◌then◌otherwise◌
 process_moves t p e h = rw e h
 
 pub process_arm : (t : Tables) (p j : ℕ) {c d : ProcessCall} {m : of-processes.Move} {r : Exiting} → c ≡ d →
@@ -87,20 +87,20 @@ job_kills t n {m} e o h = rw (e, own_after t (n % 32) m.job o) h
 
 pub job_sets : (t : Tables) (n : ℕ) {m : of-jobs.Move} {r : JobMove} {x : Reply} →
     r ≡ job_move m.job m.own false m.answer → job.moved t n m ≡ x → job_moved t n r ≡ x
-unfolding job.moved job_moved if◌then◌else◌
+unfolding job.moved job_moved if◌then◌otherwise◌
 job_sets t n e h = rw e h
 
 pub job_moves : (t : Tables) (n : ℕ) {m : of-levels.JobMove} {own : JobPolicy} {r : JobMove} {x : Reply} →
     r ≡ job_move m.job own false m.answer → own_at t (n % 32) ≡ own → exceptionate.moved_job t n m ≡ x →
     job_moved t n r ≡ x
-unfolding exceptionate.moved_job job_moved if◌then◌else◌
+unfolding exceptionate.moved_job job_moved if◌then◌otherwise◌
 job_moves t n {m} e o h = rw (e, own_after t (n % 32) m.job o) h
 
 -- ---- A task beside a token -----------------------------------------------------------------------------
 
 stands : (b : Bool) (t : Tables) (l : List Thread) (n s : ℕ) (v : Thread) {k : SuspendToken} →
-    token_at t s ≡ k → token_at (if b then with_threads t l else put_thread t n v) s ≡ k
-unfolding token_at put_thread if◌then◌else◌
+    token_at t s ≡ k → token_at (if b then with_threads t l otherwise put_thread t n v) s ≡ k
+unfolding token_at put_thread if◌then◌otherwise◌
 stands true t l n s v h = h
 stands false t l n s v h = h
 

@@ -12,7 +12,7 @@ use borrow.Author.Tests.{eqb-true, eqb-false, eq-eqb, ltb-false, le-ltb}
 use lib.Dec.{ltb}
 use lib.ListN.{length, take}
 use lib.Seq.{length-take-le, get_or-take}
-use Rattle.laws.specs.Choice.{◌=?◌, ◌<?◌, ◌and◌, if◌then◌else◌}
+use Rattle.laws.specs.Choice.{◌=?◌, ◌<?◌, ◌and◌, if◌then◌otherwise◌}
 use Rattle.laws.proofs.Cases.{by, if_on}
 use Rattle.commands.specs.declared.Next.TheVariants.{Wait, Stop, Whole}
 use Rattle.commands.specs.Commands.{byte, size_of, pairs_at, next_of}
@@ -26,9 +26,9 @@ use Rattle.calls.specs.Calls.{Called, no_call, called, call_by, call_at, call_in
 
 -- the tests of `next_of` that a whole command has passed
 size_by : (none unknown cut over : Bool) (z n : ℕ) →
-    (if none then Wait else if unknown then Stop else if cut then Wait else if over then Stop else Whole z)
+    (if none then Wait otherwise if unknown then Stop otherwise if cut then Wait otherwise if over then Stop otherwise Whole z)
     ≡ Whole n → (z ≡ n) × (over ≡ false)
-unfolding if◌then◌else◌
+unfolding if◌then◌otherwise◌
 size_by true unknown cut over z n h = let k : ◌≡◌ {A = ℕ} 0 1 = cc in absurd (omega arith)
 size_by false true cut over z n h = let k : ◌≡◌ {A = ℕ} 0 1 = cc in absurd (omega arith)
 size_by false false true over z n h = let k : ◌≡◌ {A = ℕ} 0 1 = cc in absurd (omega arith)
@@ -74,19 +74,19 @@ pub data IsCall : Called → Type 0 where
 -- a row of the table, where the code is none of those above it
 module _ (code : ℕ) where
   row_by : (n : ℕ) (x y : Called) → (code ≡ suc n → IsCall x) → (NoneOf code (suc n) → IsCall y) →
-      NoneOf code n → IsCall (if code =? suc n then x else y)
+      NoneOf code n → IsCall (if code =? suc n then x otherwise y)
   unfolding NoneOf
   row_by n x y h k none =
       if_on IsCall (code =? suc n) x y (λ t. h (eqb-true code (suc n) t)) (λ f. k (none, eqb-false code (suc n) f))
 
   row : (n : ℕ) (c : Call) (y : Called) → (NoneOf code (suc n) → IsCall y) → NoneOf code n →
-      IsCall (if code =? suc n then called c else y)
+      IsCall (if code =? suc n then called c otherwise y)
   row n c y = row_by n (called c) y (λ _. is_call c)
 
   call_by_lem : (a b c : ℕ) (bs : List ℕ) → (code ≡ 15 → c ≤ 4) → (size_of code ≡ 0 → ⊥) → IsCall (call_by code a b c bs)
-  unfolding call_by NoneOf if◌then◌else◌
+  unfolding call_by NoneOf if◌then◌otherwise◌
   call_by_lem a b c bs few known =
-      let list : code ≡ 15 → IsCall (if 4 <? c then no_call else called (cmd0f a b (take c (pairs_at bs)))) =
+      let list : code ≡ 15 → IsCall (if 4 <? c then no_call otherwise called (cmd0f a b (take c (pairs_at bs)))) =
       λ e. rw (le-ltb 4 c (few e)) (is_call (cmd0f a b (take c (pairs_at bs)))) in
       let none : NoneOf code 31 → IsCall no_call = λ r. absurd (known (sym (no_size code r))) in
       (row 0 _ _ (row 1 _ _ (row 2 _ _ (row 3 _ _ (row 4 _ _ (row 5 _ _ (row 6 _ _ (row 7 _ _

@@ -1,7 +1,7 @@
 -- The call that the bytes of a command stand for: operands in the order of document 01's table, bytes
 -- 1, 2 and 3 as a, b and c. Bytes that are no whole command stand for none.
 use Rattle.std.specs.Prelude.{ℕ, List, pos, take}
-use Rattle.laws.specs.Choice.{◌=?◌, ◌<?◌, if◌then◌else◌}
+use Rattle.laws.specs.Choice.{◌=?◌, ◌<?◌, if◌then◌otherwise◌}
 use Rattle.records.specs.declared.tables.Tables.{Tables}
 use Rattle.reply.specs.declared.Reply.{Reply}
 use Rattle.reply.specs.Reply.{answered}
@@ -20,37 +20,37 @@ pub data Called : Type 0 where
 
 unfoldable pub call_by : (code a b c : ℕ) → List ℕ → Called
 call_by code a b c bs =
-    if code =? 0x01 then called (cmd01 a b) else
-    if code =? 0x02 then called (cmd02 a) else
-    if code =? 0x03 then called (cmd03 a b) else
-    if code =? 0x04 then called (cmd04 a b) else
-    if code =? 0x05 then called (cmd05 a (signed64 (long bs 2))) else
-    if code =? 0x06 then called (cmd06 a) else
-    if code =? 0x07 then called (cmd07 a b c) else
-    if code =? 0x08 then called (cmd08 a b) else
-    if code =? 0x09 then called (cmd09 a) else
-    if code =? 0x0a then called (cmd0a a) else
-    if code =? 0x0b then called (cmd0b a) else
-    if code =? 0x0c then called (cmd0c a) else
-    if code =? 0x0d then called (cmd0d a b c) else
-    if code =? 0x0e then called (cmd0e a) else
-    if code =? 0x0f then (if 4 <? c then no_call else called (cmd0f a b (take c (pairs_at bs)))) else
-    if code =? 0x10 then called (cmd10 a (signed64 (long bs 2)) (byte bs 10)) else
-    if code =? 0x11 then called (cmd11 a b) else
-    if code =? 0x12 then called (cmd12 a b) else
-    if code =? 0x13 then called (cmd13 a b) else
-    if code =? 0x14 then called (cmd14 a (half bs 2)) else
-    if code =? 0x15 then called (cmd15 a) else
-    if code =? 0x16 then called (cmd16 a (word bs 2)) else
-    if code =? 0x17 then called (cmd17 a (word bs 2)) else
-    if code =? 0x18 then called (cmd18 a) else
-    if code =? 0x19 then called (cmd19 a (half bs 2)) else
-    if code =? 0x1a then called (cmd1a a b) else
-    if code =? 0x1b then called (cmd1b a) else
-    if code =? 0x1c then called (cmd1c a) else
-    if code =? 0x1d then called (cmd1d a) else
-    if code =? 0x1e then called (cmd1e a b) else
-    if code =? 0x1f then called (cmd1f a b) else
+    if code =? 0x01 then called (cmd01 a b) otherwise
+    if code =? 0x02 then called (cmd02 a) otherwise
+    if code =? 0x03 then called (cmd03 a b) otherwise
+    if code =? 0x04 then called (cmd04 a b) otherwise
+    if code =? 0x05 then called (cmd05 a (signed64 (long bs 2))) otherwise
+    if code =? 0x06 then called (cmd06 a) otherwise
+    if code =? 0x07 then called (cmd07 a b c) otherwise
+    if code =? 0x08 then called (cmd08 a b) otherwise
+    if code =? 0x09 then called (cmd09 a) otherwise
+    if code =? 0x0a then called (cmd0a a) otherwise
+    if code =? 0x0b then called (cmd0b a) otherwise
+    if code =? 0x0c then called (cmd0c a) otherwise
+    if code =? 0x0d then called (cmd0d a b c) otherwise
+    if code =? 0x0e then called (cmd0e a) otherwise
+    if code =? 0x0f then (if 4 <? c then no_call otherwise called (cmd0f a b (take c (pairs_at bs)))) otherwise
+    if code =? 0x10 then called (cmd10 a (signed64 (long bs 2)) (byte bs 10)) otherwise
+    if code =? 0x11 then called (cmd11 a b) otherwise
+    if code =? 0x12 then called (cmd12 a b) otherwise
+    if code =? 0x13 then called (cmd13 a b) otherwise
+    if code =? 0x14 then called (cmd14 a (half bs 2)) otherwise
+    if code =? 0x15 then called (cmd15 a) otherwise
+    if code =? 0x16 then called (cmd16 a (word bs 2)) otherwise
+    if code =? 0x17 then called (cmd17 a (word bs 2)) otherwise
+    if code =? 0x18 then called (cmd18 a) otherwise
+    if code =? 0x19 then called (cmd19 a (half bs 2)) otherwise
+    if code =? 0x1a then called (cmd1a a b) otherwise
+    if code =? 0x1b then called (cmd1b a) otherwise
+    if code =? 0x1c then called (cmd1c a) otherwise
+    if code =? 0x1d then called (cmd1d a) otherwise
+    if code =? 0x1e then called (cmd1e a b) otherwise
+    if code =? 0x1f then called (cmd1f a b) otherwise
     no_call
 
 -- the call of a command, its bytes at hand

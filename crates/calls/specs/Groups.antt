@@ -1,6 +1,6 @@
 -- A call by the records that it names: what each group of calls stands for, and what is read and stored for it.
 use Rattle.std.specs.Prelude.{ℕ, ◌%◌, ◌≡◌, Bool, false, not, List, ℤ, take}
-use Rattle.laws.specs.Choice.{◌<?◌, ◌and◌, if◌then◌else◌}
+use Rattle.laws.specs.Choice.{◌<?◌, ◌and◌, if◌then◌otherwise◌}
 use Rattle.laws.specs.Lists.{any}
 use Rattle.job_policy.specs.declared.BasicPolicy.{BasicPolicy}
 use Rattle.job_policy.specs.declared.JobPolicy.{JobPolicy}
@@ -109,7 +109,7 @@ show_call ThreadInformation n = cmd1d n
 
 -- a level outside its list
 unfoldable pub bad_of : ℕ → ℕ
-bad_of level = if bad_level level then level else 0
+bad_of level = if bad_level level then level otherwise 0
 
 unfoldable pub call_of : Command → List BasicPolicy → Called
 call_of NoCall l = no_call
@@ -130,7 +130,7 @@ StandsFor r x = (l : List BasicPolicy) → call_of r l ≡ x
 
 -- 0f: a count above 4 is no command
 unfoldable pub policy_command : (job option count : ℕ) → Command
-policy_command job option count = if 4 <? count then NoCall else OnJob (SetPolicy option count) job
+policy_command job option count = if 4 <? count then NoCall otherwise OnJob (SetPolicy option count) job
 
 -- ---- A process, beside a job -------------------------------------------------------------------------
 
@@ -166,7 +166,7 @@ job_move v own kills answer = record { answer = answer; kills = kills; job = v; 
 unfoldable pub job_moved : Tables → ℕ → JobMove → Reply
 job_moved t j m =
     let u : Tables = put_own (put_job t (j % 32) m.job) (j % 32) m.own in
-    answered (if m.kills then kill_job u j else u) m.answer
+    answered (if m.kills then kill_job u j otherwise u) m.answer
 
 abbrev pub OnJobs : JobCall → ℕ → List BasicPolicy → Job → JobPolicy → JobPolicy → Bool → JobMove → Type 0
 OnJobs c job l j own inherited alone m =

@@ -7,7 +7,7 @@ use mathlib.Core.Path.{◌≡◌, refl, sym, ap, ◌∙◌}
 use mathlib.Core.Bool.{true, false}
 use mathlib.Core.List.{List, [], ◌∷◌}
 use borrow.Author.Tests.{leb-false}
-use Rattle.laws.specs.Choice.{◌≤?◌, ◌and◌, ◌or◌, if◌then◌else◌}
+use Rattle.laws.specs.Choice.{◌≤?◌, ◌and◌, ◌or◌, if◌then◌otherwise◌}
 use Rattle.laws.specs.Lists.{any}
 use Rattle.laws.proofs.Cases.{by, no_both}
 use Rattle.laws.proofs.Flow.{and_stops, yes, no}
@@ -32,7 +32,7 @@ use Rattle.cascade.specs.Ends.{ends_alone, ends_here}
 
 -- nothing bars a kill
 no_bar : (p : ℕ) (l : List Thread) → any (λ v. thread_of v p and bars KILL v) l ≡ false
-unfolding any bars ◌or◌ ◌and◌ if◌then◌else◌
+unfolding any bars ◌or◌ ◌and◌ if◌then◌otherwise◌
 no_bar p [] = refl
 no_bar p (v ∷ l) = by (thread_of v p) (λ e. rw e (no_bar p l)) (λ e. rw e (no_bar p l))
 
@@ -42,7 +42,7 @@ module _ (t : Tables) (p : ℕ) where
   listed_is = some_is KILL p t.threads (no_bar p t.threads)
 
   kills_each : with_threads t (each_unless KILL p t.threads).threads ≡ stop_threads t p
-  unfolding stop_threads stop_in one_of each_in if◌then◌else◌
+  unfolding stop_threads stop_in one_of each_in if◌then◌otherwise◌
   kills_each = ap (with_threads t) (changed_is KILL p t.threads (no_bar p t.threads))
 
   pub stops_listed : (each_unless KILL p t.threads).some ≡ true →
@@ -79,7 +79,7 @@ ends_alone_lem t p {q} {j} h g e =
 -- the same of a process marked Exited, whose job is looked up by its place
 pub ends_here_lem : (t : Tables) (p : ℕ) {q : Process} {j : Job} → process_at t p ≡ q → job_at t (q.job % 32) ≡ j →
     ends_here p q j t.threads ≡ true → put_process t p (ended q) ≡ exit_listed kill_job t p
-unfolding ends_here if◌then◌else◌ exit_listed end_process lists_thread
+unfolding ends_here if◌then◌otherwise◌ exit_listed end_process lists_thread
 ends_here_lem t p {q} {j} h g e =
     by (any (λ v. thread_of v p) t.threads) (λ a. no_both (rw a at e) refl)
     (λ a. by (32 ≤? q.job) (λ b. no_both (rw (a, b) at e) refl)

@@ -1,6 +1,6 @@
 -- The end of a process that no other record is changed by.
 use Rattle.std.specs.Prelude.{ℕ, Bool, false, not, List}
-use Rattle.laws.specs.Choice.{◌≤?◌, ◌and◌, if◌then◌else◌}
+use Rattle.laws.specs.Choice.{◌≤?◌, ◌and◌, if◌then◌otherwise◌}
 use Rattle.laws.specs.Lists.{any}
 use Rattle.record_job.specs.declared.Job.{Job}
 use Rattle.record_process.specs.declared.Process.{Process}
@@ -15,6 +15,6 @@ ends_alone q j = not (is_critical q.critical) and not j.killed
 -- process p, marked Exited, lists no thread
 unfoldable pub ends_here : ℕ → Process → Job → List Thread → Bool
 ends_here p q j threads =
-    if any (λ v. thread_of v p) threads then false else
-    if 32 ≤? q.job then false else
+    if any (λ v. thread_of v p) threads then false otherwise
+    if 32 ≤? q.job then false otherwise
     ends_alone q j

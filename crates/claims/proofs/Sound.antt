@@ -6,7 +6,7 @@ use native.Mathlib.Omega.{arith}
 use mathlib.Core.Path.{◌≡◌, refl, sym, ap, ◌∙◌}
 use mathlib.Core.Bool.{true, false}
 use mathlib.Core.List.{List, [], ◌∷◌}
-use Rattle.laws.specs.Choice.{if◌then◌else◌}
+use Rattle.laws.specs.Choice.{if◌then◌otherwise◌}
 use Rattle.laws.proofs.Cases.{no_both, if_on}
 use Rattle.record_job.specs.declared.Parent.TheVariants.{Orphan}
 use Rattle.record_job.specs.declared.Job.{Job}
@@ -230,7 +230,7 @@ fresh_unkilled : (i : ℕ) → (job_at fresh_tables i).killed ≡ false
 fresh_unkilled = fresh_job (λ i v. v.killed ≡ false) refl (λ i. refl)
 
 fresh_count : 0 < count (λ (v : Job). v.made) fresh_tables.jobs
-unfolding count fresh_tables if◌then◌else◌
+unfolding count fresh_tables if◌then◌otherwise◌
 fresh_count = omega arith
 
 pub fresh_sound : Sound fresh_tables

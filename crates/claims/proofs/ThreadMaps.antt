@@ -4,7 +4,7 @@ use Prim.Native.Nat.{ℕ}
 use mathlib.Core.Path.{◌≡◌, refl, ◌∙◌, ap}
 use mathlib.Core.Bool.{true}
 use mathlib.Core.List.{List, map}
-use Rattle.laws.specs.Choice.{◌and◌, if◌then◌else◌}
+use Rattle.laws.specs.Choice.{◌and◌, if◌then◌otherwise◌}
 use Rattle.laws.proofs.Cases.{if_on}
 use Rattle.laws.proofs.Counts.{map_at}
 use Rattle.record_thread.specs.declared.Thread.{Thread}
@@ -50,7 +50,7 @@ module _ (t : Tables) (l : List Thread) (k : ℕ) where
 -- ---- Killing the threads of a process ------------------------------------------------------
 
 stop_in_none : (p : ℕ) → stop_in p no_thread ≡ no_thread
-unfolding stop_in thread_of ◌and◌ if◌then◌else◌
+unfolding stop_in thread_of ◌and◌ if◌then◌otherwise◌
 stop_in_none p = refl
 
 pub thread_at_stop_threads : (t : Tables) (p n : ℕ)

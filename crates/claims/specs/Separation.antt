@@ -5,7 +5,7 @@
 -- using only its names. Then the second trip's calls get the same answers and fields, and the
 -- records under its names are the same in the end, as if the first trip's calls had been left out.
 use Rattle.std.specs.Prelude.{ℕ, ◌≡◌, Bool, true, false, List, [], ◌∷◌}
-use Rattle.laws.specs.Choice.{◌≤?◌, ◌<?◌, ◌or◌, if◌then◌else◌}
+use Rattle.laws.specs.Choice.{◌≤?◌, ◌<?◌, ◌or◌, if◌then◌otherwise◌}
 use Rattle.record_process.specs.declared.Critical.TheVariants.{To}
 use Rattle.records.specs.declared.tables.Tables.{Tables}
 use Rattle.records.specs.Tables.{job_at, own_at, inherited_at, process_at, fixed_at, thread_at, token_at}
@@ -30,7 +30,7 @@ pub record Trip : Type 0 where
 
 -- the trip that a task is of
 abbrev pub task_of : Trip → ℕ → ℕ → Bool
-task_of x kind n = if kind ≤? 1 then x.processes n else x.threads n
+task_of x kind n = if kind ≤? 1 then x.processes n otherwise x.threads n
 
 -- of the made names a trip has its job, all made below it, and the tokens on these; unmade names
 -- are kept for it freely

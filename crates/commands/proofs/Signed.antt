@@ -8,11 +8,11 @@ use lib.IntN.{ℤ, pos, negsuc, ◌-ℤ◌}
 use mir.Syntax.{w64}
 use mir.Val.{SFits, to_z, of_z}
 use mir.Facts.{to_z_pos, to_z-of_z}
-use Rattle.laws.specs.Choice.{if◌then◌else◌}
+use Rattle.laws.specs.Choice.{if◌then◌otherwise◌}
 use Rattle.commands.specs.Commands.{signed64}
 
 pub low_half : (n : ℕ) → n < 2 ^ 63 → to_z w64 n ≡ signed64 n
-unfolding signed64 if◌then◌else◌
+unfolding signed64 if◌then◌otherwise◌
 low_half n h = to_z_pos w64 h ∙ rw (lt-ltb n (2 ^ 63) h)
 
 below : (m : ℕ) → negsuc 0 -ℤ pos m ≡ negsuc m
@@ -32,5 +32,5 @@ module _ (n : ℕ) (h : 2 ^ 63 ≤ n) (f : n < 2 ^ 64) where
   high_fits = rw is_below (record { sfits = omega arith })
 
   pub high_half : to_z w64 (of_z w64 z) ≡ signed64 n
-  unfolding signed64 if◌then◌else◌
+  unfolding signed64 if◌then◌otherwise◌
   high_half = to_z-of_z {w = w64} high_fits ∙ is_below ∙ rw (le-ltb n (2 ^ 63) h)

@@ -11,7 +11,7 @@ use mathlib.Core.List.{List, [], ◌∷◌, ◌++◌}
 use borrow.Author.Tests.{eqb-true, eqb-false, ltb-false, ne_eqb, le-ltb}
 use lib.Dec.{eqb, ltb}
 use lib.ListN.{length, drop, length-drop, length-append, get_or-append}
-use Rattle.laws.specs.Choice.{if◌then◌else◌, ◌and◌}
+use Rattle.laws.specs.Choice.{if◌then◌otherwise◌, ◌and◌}
 use Rattle.commands.specs.declared.Next.{Next}
 use Rattle.commands.specs.declared.Next.TheVariants.{Wait, Stop, Whole}
 use Rattle.commands.specs.Commands.{byte, size_of, next_of}
@@ -19,15 +19,15 @@ use Rattle.commands.specs.Commands.{byte, size_of, next_of}
 -- the tests of `next_of`: nothing there, no command, cut, a list of more than four
 abbrev next : Bool → Bool → Bool → Bool → ℕ → Next
 next none unknown cut over z =
-    if none then Wait else
-    if unknown then Stop else
-    if cut then Wait else
-    if over then Stop else
+    if none then Wait otherwise
+    if unknown then Stop otherwise
+    if cut then Wait otherwise
+    if over then Stop otherwise
     Whole z
 
 bounds : (m z n : ℕ) (b₁ b₂ b₃ b₄ : Bool) → eqb z 0 ≡ b₂ → ltb m z ≡ b₃ → next b₁ b₂ b₃ b₄ z ≡ Whole n →
     (0 < n) × (n ≤ m)
-unfolding if◌then◌else◌
+unfolding if◌then◌otherwise◌
 bounds m z n true b₂ b₃ b₄ e₂ e₃ h = let k : ◌≡◌ {A = ℕ} 0 1 = cc in absurd (omega arith)
 bounds m z n false true b₃ b₄ e₂ e₃ h = let k : ◌≡◌ {A = ℕ} 0 1 = cc in absurd (omega arith)
 bounds m z n false false true b₄ e₂ e₃ h = let k : ◌≡◌ {A = ℕ} 0 1 = cc in absurd (omega arith)
@@ -49,7 +49,7 @@ stays : (m k z : ℕ) (b₁ b₂ b₃ b₄ b₅ : Bool)
     (x : Next) → m ≤ k → eqb m 0 ≡ b₁ → eqb z 0 ≡ b₂ → ltb m z ≡ b₃ →
     (z ≤ m → b₄ ≡ b₅) → next b₁ b₂ b₃ b₄ z ≡ x → (x ≡ Wait → ⊥) →
     next (eqb k 0) (eqb z 0) (ltb k z) b₅ z ≡ x
-unfolding if◌then◌else◌
+unfolding if◌then◌otherwise◌
 stays m k z true b₂ b₃ b₄ b₅ x l e₁ e₂ e₃ f h w = absurd (w (sym h))
 stays m k z false true b₃ b₄ b₅ x l e₁ e₂ e₃ f h w =
     let p : k ≡ 0 → ⊥ = λ e. eqb-false m 0 e₁ (omega arith) in
@@ -61,7 +61,7 @@ stays m k z false false false b₄ b₅ x l e₁ e₂ e₃ f h w =
     rw (ne_eqb k 0 p, e₂, le-ltb k z g, ← f (ltb-false m z e₃)) h
 
 some_first : (bs : List ℕ) (x : Next) → next_of bs ≡ x → (x ≡ Wait → ⊥) → 0 < length bs
-unfolding next_of if◌then◌else◌
+unfolding next_of if◌then◌otherwise◌
 some_first [] x e w = absurd (w (sym e))
 some_first (b ∷ bs) x e w = omega arith
 

@@ -1,7 +1,7 @@
 -- The commands 01 to 1f as bytes: one command byte, then operands, little-endian (document 01,
 -- Commands of the recorder). A byte past the end is 0.
 use Rattle.std.specs.Prelude.{ℕ, ◌+◌, ◌-◌, ◌*◌, List, [], ◌∷◌, ℤ, pos, negsuc, length, get_or}
-use Rattle.laws.specs.Choice.{◌<?◌, ◌=?◌, ◌and◌, if◌then◌else◌}
+use Rattle.laws.specs.Choice.{◌<?◌, ◌=?◌, ◌and◌, if◌then◌otherwise◌}
 use Rattle.job_policy.specs.declared.BasicPolicy.{BasicPolicy}
 use Rattle.commands.specs.declared.Next.{Next}
 use Rattle.commands.specs.declared.Next.TheVariants.{Wait, Stop, Whole}
@@ -21,7 +21,7 @@ long bs i = word bs i + 0x100000000 * word bs (i + 4)
 
 -- the signed number of 64 bits
 unfoldable pub signed64 : ℕ → ℤ
-signed64 n = if n <? 0x8000000000000000 then pos n else negsuc (0xffffffffffffffff - n)
+signed64 n = if n <? 0x8000000000000000 then pos n otherwise negsuc (0xffffffffffffffff - n)
 
 -- a condition and an action
 abbrev pub pair_at : List ℕ → ℕ → BasicPolicy
@@ -53,8 +53,8 @@ size_of code = get_or sizes code 0
 -- what stands at the front of some bytes; 0f with a count above 4 is no command
 unfoldable pub next_of : List ℕ → Next
 next_of bs =
-    if length bs =? 0 then Wait else
-    if size_of (byte bs 0) =? 0 then Stop else
-    if length bs <? size_of (byte bs 0) then Wait else
-    if (byte bs 0 =? 0x0f) and (4 <? byte bs 3) then Stop else
+    if length bs =? 0 then Wait otherwise
+    if size_of (byte bs 0) =? 0 then Stop otherwise
+    if length bs <? size_of (byte bs 0) then Wait otherwise
+    if (byte bs 0 =? 0x0f) and (4 <? byte bs 3) then Stop otherwise
     Whole (size_of (byte bs 0))

@@ -9,7 +9,7 @@ use mathlib.Core.Bool.{Bool, true, false}
 use lib.IntN.{pos}
 use lib.Seq.{set-set}
 use borrow.Author.Tests.{lt-leb, le-leb}
-use Rattle.laws.specs.Choice.{if◌then◌else◌}
+use Rattle.laws.specs.Choice.{if◌then◌otherwise◌}
 use Rattle.laws.proofs.Cases.{by}
 use Rattle.laws.proofs.Flow.{first, second, not_yes, not_no}
 use Rattle.laws.proofs.Tables.{read_past, write_past}
@@ -51,7 +51,7 @@ use Rattle.exception.proofs.Stored.{Fits, stored, process_put, thread_there}
 unfoldable pub stored_in : Tables → ℕ → ℕ → Raised → Reply
 stored_in t n p m =
     let u : Tables = with_jobs (put_process (put_thread t n m.thread) p m.process) m.jobs in
-    reply (if m.exits then exit_listed kill_job u p else u) m.answer m.fields
+    reply (if m.exits then exit_listed kill_job u p otherwise u) m.answer m.fields
 
 abbrev pub Still : ℕ → Raised → Type 0
 Still p m = 64 ≤ p → m.exits ≡ false
@@ -59,7 +59,7 @@ Still p m = 64 ≤ p → m.exits ≡ false
 pub kept_back : (t : Tables) (n : ℕ) (v : Thread) (q : Process) (m : Raised) → Sized t → n < 128 →
     process_at t (v.process % 64) ≡ q → Still v.process m →
     raised_in t n v (kept v.process q m) ≡ stored_in t n v.process m
-unfolding raised_in kept stored_in if◌then◌else◌ process_at put_process put_thread
+unfolding raised_in kept stored_in if◌then◌otherwise◌ process_at put_process put_thread
 kept_back t n v q m z h e s = go (dec_lt v.process 64)
   where
     go : Dec (v.process < 64) → raised_in t n v (kept v.process q m) ≡ stored_in t n v.process m
@@ -74,7 +74,7 @@ kept_back t n v q m z h e s = go (dec_lt v.process 64)
 
 -- the record by which the search goes is what the tables have under the name
 pub own_is : (t : Tables) (p : ℕ) (q : Process) → Sized t → process_at t (p % 64) ≡ q → process_at t p ≡ own_process p q
-unfolding own_process if◌then◌else◌ process_at
+unfolding own_process if◌then◌otherwise◌ process_at
 own_is t p q z e = go (dec_lt p 64)
   where
     go : Dec (p < 64) → process_at t p ≡ own_process p q
@@ -84,7 +84,7 @@ own_is t p q z e = go (dec_lt p 64)
         rw (le-leb 64 p k) (sym (read_past t.processes p no_process z.processes k))
 
 pub own_fits : (p : ℕ) (q : Process) → Fits p (own_process p q)
-unfolding own_process if◌then◌else◌
+unfolding own_process if◌then◌otherwise◌
 own_fits p q k = rw (le-leb 64 p k)
 
 -- ---- Delivery ----------------------------------------------------------------------------------
@@ -93,7 +93,7 @@ own_fits p q k = rw (le-leb 64 p k)
 unfoldable pub exiting_to : Handler → Tables → ℕ → ℕ → Reply
 exiting_to Nobody u n kind = outcome u NEXT
 exiting_to (HandlerAt p) u n kind =
-    if (thread_at u n).killed then outcome u STOP else
+    if (thread_at u n).killed then outcome u STOP otherwise
     reply (put_thread u n (waits (thread_at u n) (thread_at u n).state (InException (exception_at kind p false))))
     (pos 1) (OwnerField (process_of u n))
 
@@ -140,7 +140,7 @@ module _ (t : Tables) (z : Sized t) (n : ℕ) (h : n < 128) (f : Found)
 
   waiting : (p : Place) (kind : ℕ) (b : Bool) →
       deliver (HandlerAt p) there n kind b ≡ stored_in t n name (waits_at f p n kind b)
-  unfolding deliver stored_in if◌then◌else◌
+  unfolding deliver stored_in if◌then◌otherwise◌
   waiting p kind b =
       ap (λ (u : Tables). reply u (pos (level_of p)) (OwnerField (owner_of there n p)))
       (put_thread_lem (λ v. waits v BLOCKED_EXCEPTION (InException (exception_at kind p b))))
@@ -173,7 +173,7 @@ module _ (t : Tables) (z : Sized t) (n : ℕ) (h : n < 128) (f : Found)
       ∙ ap (λ (u : Tables). exit_listed kill_job u name) (put_process_lem (end_wait f.thread) r)
 
   ending : (kind : ℕ) → outcome (unhandled there n kind) NEXT ≡ stored_in t n name (unheard f kind)
-  unfolding unhandled unheard stored_in if◌then◌else◌
+  unfolding unhandled unheard stored_in if◌then◌otherwise◌
   ending kind =
       by (is_synth kind)
       (λ s. rw s (ap (λ (u : Tables). reply u NEXT (OwnerField 0)) over_is))
@@ -189,7 +189,7 @@ module _ (t : Tables) (z : Sized t) (n : ℕ) (h : n < 128) (f : Found)
   deliver_at (HandlerAt p) kind b = waiting p kind b
 
   pub deliver_still : (at : Handler) (kind : ℕ) (b : Bool) → Still name (delivers at f n kind b)
-  unfolding delivers unheard if◌then◌else◌
+  unfolding delivers unheard if◌then◌otherwise◌
   deliver_still (HandlerAt p) kind b k = refl
   deliver_still Nobody kind b k =
       by (is_synth kind)
@@ -206,14 +206,14 @@ module _ (t : Tables) (z : Sized t) (n : ℕ) (h : n < 128) (f : Found)
   exit_waits : (p : Place) (kind : ℕ) →
       reply (put_thread there n (exiting_at p kind (thread_at there n))) (pos 1) (OwnerField (process_of there n))
       ≡ stored_in t n name (shown (pos 1) name (exiting_at p kind f.thread) f.process f.jobs)
-  unfolding stored_in if◌then◌else◌
+  unfolding stored_in if◌then◌otherwise◌
   exit_waits p kind =
       ap (λ (u : Tables). reply u (pos 1) (OwnerField (process_of there n))) (put_thread_lem (exiting_at p kind))
       ∙ ap (λ (x : Thread). reply (with (exiting_at p kind f.thread) f.process) (pos 1) (OwnerField x.process))
       thread_is
 
   pub exits_at : (at : Handler) (kind : ℕ) → exiting_to at there n kind ≡ stored_in t n name (exits_to at f kind)
-  unfolding exiting_to exits_to stored_in if◌then◌else◌
+  unfolding exiting_to exits_to stored_in if◌then◌otherwise◌
   exits_at Nobody kind = refl
   exits_at (HandlerAt p) kind =
       let k : (thread_at there n).killed ≡ f.thread.killed = ap (λ (x : Thread). x.killed) thread_is in
@@ -222,6 +222,6 @@ module _ (t : Tables) (z : Sized t) (n : ℕ) (h : n < 128) (f : Found)
       (λ d. sym (second _ _ (k ∙ d) refl) ∙ exit_waits p kind ∙ ap (stored_in t n name) (second _ _ d refl))
 
 pub exits_still : (at : Handler) (f : Found) (kind : ℕ) → (exits_to at f kind).exits ≡ false
-unfolding exits_to if◌then◌else◌
+unfolding exits_to if◌then◌otherwise◌
 exits_still Nobody f kind = refl
 exits_still (HandlerAt p) f kind = by f.thread.killed (λ d. rw d) (λ d. rw d)

@@ -8,7 +8,7 @@ use mathlib.Core.Bool.{Bool, true, false}
 use mathlib.Core.List.{List}
 use lib.IntN.{ℤ, pos}
 use borrow.Author.Tests.{eqb-true}
-use Rattle.laws.specs.Choice.{◌=?◌, ◌or◌, ite, if◌then◌else◌}
+use Rattle.laws.specs.Choice.{◌=?◌, ◌or◌, ite, if◌then◌otherwise◌}
 use Rattle.laws.proofs.Cases.{by, if_on}
 use Rattle.laws.proofs.Flow.{first, second}
 use Rattle.error.specs.Numbers.{STOP}
@@ -49,21 +49,21 @@ use Rattle.exception.proofs.Delivering.{deliver_still, exits_at, exits_still}
 
 raise_exiting_lem : (t : Tables) (n kind : ℕ) →
     let s = try_at t n Exiting no_handler in raise_exiting t n kind ≡ exiting_to s.at s.tables n kind
-unfolding raise_exiting try_at ite if◌then◌else◌ exiting_to
+unfolding raise_exiting try_at ite if◌then◌otherwise◌ exiting_to
 raise_exiting_lem t n kind = by (is_bound (level_at t n Exiting)) (λ b. rw b) (λ b. rw b)
 
 exiting_stage : (kind : ℕ) (q : Process) → kind =? 0x8108 ≡ true → first_stage (route_of kind) q ≡ ExitingAlone
-unfolding route_of is_hardware first_stage if◌then◌else◌ ◌or◌
+unfolding route_of is_hardware first_stage if◌then◌otherwise◌ ◌or◌
 exiting_stage kind q e = rw (eqb-true kind 0x8108 e)
 
 other_route : (kind : ℕ) → kind =? 0x8108 ≡ false → is_to_exiting (route_of kind) ≡ false
-unfolding route_of if◌then◌else◌
+unfolding route_of if◌then◌otherwise◌
 other_route kind e =
     rw e (go (is_hardware kind) ((kind =? 0x8000) or (kind =? 0x8208)) (kind =? 0x8308) (kind =? 0x8008))
   where
     go : (a b c d : Bool) →
-        is_to_exiting (if a then Ordinary else if b then Ordinary else if c then JobDebuggers else
-        if d then DebuggerOnly else NoType) ≡ false
+        is_to_exiting (if a then Ordinary otherwise if b then Ordinary otherwise if c then JobDebuggers otherwise
+        if d then DebuggerOnly otherwise NoType) ≡ false
     go true b c d = refl
     go false true c d = refl
     go false false true d = refl
@@ -114,7 +114,7 @@ module _ (t : Tables) (z : Sized t) (n : ℕ) (h : n < 128) {v : Thread} {q : Pr
   -- an answer and no change of the process
   stays_shown : (w : Thread) (a : ℤ) →
       outcome (put_thread t n w) a ≡ stored_in t n v.process (shown a 0 w q t.jobs)
-  unfolding stored_in if◌then◌else◌ put_thread put_process process_at
+  unfolding stored_in if◌then◌otherwise◌ put_thread put_process process_at
   stays_shown w a =
       ap (λ (u : Tables). reply u a (OwnerField 0)) (sym (process_kept (put_thread t n w) v.process p))
 
@@ -180,7 +180,7 @@ module _ (t : Tables) (z : Sized t) (n : ℕ) (h : n < 128) {v : Thread} {q : Pr
 pub stays : {m : Raised} (t : Tables) (n : ℕ) {v : Thread} {q : Process} {jobs : List Job} (c : ℤ) →
     m ≡ refused v q jobs c → thread_at t (n % 128) ≡ v → process_at t (v.process % 64) ≡ q → t.jobs ≡ jobs →
     raised_in t n v m ≡ answered t c
-unfolding raised_in if◌then◌else◌ reply answered put_thread put_process process_at
+unfolding raised_in if◌then◌otherwise◌ reply answered put_thread put_process process_at
 stays t n {v} {q} c e a b d =
     rw (e, ← d)
     (ap (λ (u : Tables). answered (with_jobs u t.jobs) c)

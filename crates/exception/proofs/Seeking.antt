@@ -4,7 +4,7 @@ use mathlib.Core.Path.{◌≡◌, refl, sym, ap, ◌∙◌, subst}
 use mathlib.Core.Bool.{Bool, true, false}
 use mathlib.Core.List.{List}
 use lib.ListN.{get_or}
-use Rattle.laws.specs.Choice.{◌=?◌, ite, if◌then◌else◌}
+use Rattle.laws.specs.Choice.{◌=?◌, ite, if◌then◌otherwise◌}
 use Rattle.laws.proofs.Cases.{no_both}
 use Rattle.record_exception.specs.declared.Level.{Level}
 use Rattle.record_exception.specs.declared.Place.{Place}
@@ -54,11 +54,11 @@ taken u p = record { tables = u; at = HandlerAt p }
 
 -- l is the level, w the tables past it
 tries : (u : Tables) (n : ℕ) (p : Place) (k : Tables → Search) {l : Level} {w : Tables} →
-    level_at u n p ≡ l → pass_over u n p ≡ w → try_at u n p k ≡ if is_bound l then taken u p else k w
-unfolding try_at ite if◌then◌else◌
+    level_at u n p ≡ l → pass_over u n p ≡ w → try_at u n p k ≡ if is_bound l then taken u p otherwise k w
+unfolding try_at ite if◌then◌otherwise◌
 tries u n p k {l} {w} e f = go (is_bound l) (ap is_bound e)
   where
-    go : (b : Bool) → is_bound (level_at u n p) ≡ b → try_at u n p k ≡ if b then taken u p else k w
+    go : (b : Bool) → is_bound (level_at u n p) ≡ b → try_at u n p k ≡ if b then taken u p otherwise k w
     go true h = rw h
     go false h = rw (h, f)
 
@@ -96,13 +96,13 @@ module _ (n : ℕ) where
     parent_is (ChildOf i) = above i
 
     step_is : (b : Bool) →
-        if b then taken u (job_place d j) else
+        if b then taken u (job_place d j) otherwise
         on_parent (job_at (past d u j) j).parent (no_handler (past d u j))
         (λ i. search_up k (job_place d) (past d u j) n i)
         ≡ climbed_in u (ite b (λ _. climbed (HandlerAt (job_place d j)) u.jobs) λ _.
         on_parent (get_or (passed_jobs d u.jobs j) j no_job).parent (climbed Nobody (passed_jobs d u.jobs j)) λ i.
         climbing k d (passed_jobs d u.jobs j) i)
-    unfolding if◌then◌else◌ ite job_at
+    unfolding if◌then◌otherwise◌ ite job_at
     step_is true = refl
     step_is false = parent_is (get_or (passed_jobs d u.jobs j) j no_job).parent
 
@@ -142,12 +142,12 @@ module _ (t : Tables) (z : Sized t) (n : ℕ) (h : n < 128) where
   -- a level tried: there, or on
   sound_try : {p : ℕ} (u w : Tables) (place : Place) (k : Tables → Search) {l : Level} {x y : Sought} →
       level_at u n place ≡ l → pass_over u n place ≡ w → Sound t n p (taken u place) x → Sound t n p (k w) y →
-      Sound t n p (try_at u n place k) (if is_bound l then x else y)
-  unfolding if◌then◌else◌
+      Sound t n p (try_at u n place k) (if is_bound l then x otherwise y)
+  unfolding if◌then◌otherwise◌
   sound_try {p} u w place k {l} {x} {y} e f a b =
-      subst (λ (s : Search). Sound t n p s (if is_bound l then x else y)) (sym (tries u n place k e f)) (go (is_bound l))
+      subst (λ (s : Search). Sound t n p s (if is_bound l then x otherwise y)) (sym (tries u n place k e f)) (go (is_bound l))
     where
-      go : (c : Bool) → Sound t n p (if c then taken u place else k w) (if c then x else y)
+      go : (c : Bool) → Sound t n p (if c then taken u place otherwise k w) (if c then x otherwise y)
       go true = a
       go false = b
 
@@ -168,7 +168,7 @@ module _ (t : Tables) (z : Sized t) (n : ℕ) (h : n < 128) where
 
   second_sound : (v : Thread) (q : Process) (f : Fits v.process q) (b : Bool) →
       Sound t n v.process (model.from_second_chance (stored t n v q) n b) (from_second_chance v q b)
-  unfolding model.from_second_chance model.from_jobs from_second_chance if◌then◌else◌ level_at pass_over put_level_at sent
+  unfolding model.from_second_chance model.from_jobs from_second_chance if◌then◌otherwise◌ level_at pass_over put_level_at sent
   second_sound v q f true =
       sound_try (stored t n v q) _ SecondChance (λ u. model.from_jobs u n) (level1_there t z n h v q f)
       (pass_level1 t z n h v q f) (ends v q f (To SecondChance))
@@ -288,12 +288,12 @@ module _ (t : Tables) (n : ℕ) {q : Process} (e : process_at t (process_of t n)
   first_is NoType x = refl
 
   after_is : (kind : ℕ) (b : Bool) →
-      if kind =? 0x8008 then no_handler t else model.from_thread t n b ≡ from_stage (after_debugger kind) b t n
-  unfolding after_debugger if◌then◌else◌ from_stage
+      if kind =? 0x8008 then no_handler t otherwise model.from_thread t n b ≡ from_stage (after_debugger kind) b t n
+  unfolding after_debugger if◌then◌otherwise◌ from_stage
   after_is kind b = go (kind =? 0x8008)
     where
       go : (a : Bool) →
-          if a then no_handler t else model.from_thread t n b ≡ from_stage (if a then NobodyLeft else FromThread) b t n
+          if a then no_handler t otherwise model.from_thread t n b ≡ from_stage (if a then NobodyLeft otherwise FromThread) b t n
       go true = refl
       go false = refl
 

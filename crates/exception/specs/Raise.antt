@@ -1,7 +1,7 @@
 -- 14 and 15 over the records that they name: what a call gives, stored where the records were, is what the model says
 -- of the call, whatever else the tables hold.
 use Rattle.std.specs.Prelude.{ℕ, ◌%◌, ◌≡◌, Bool, true, false, not, List, ℤ, pos}
-use Rattle.laws.specs.Choice.{◌=?◌, ◌≤?◌, ◌or◌, if◌then◌else◌}
+use Rattle.laws.specs.Choice.{◌=?◌, ◌≤?◌, ◌or◌, if◌then◌otherwise◌}
 use Rattle.error.specs.Numbers.{NEXT, STOP}
 use Rattle.record_exception.specs.declared.Place.{Place}
 use Rattle.record_exception.specs.declared.Place.TheVariants.{Debugger, OwnThread, OwnProcess}
@@ -39,7 +39,7 @@ unfoldable pub raised_in : Tables → ℕ → Thread → Raised → Reply
 raised_in t n v m =
     let u : Tables =
     with_jobs (put_process (put_thread t (n % 128) m.thread) (v.process % 64) m.process) m.jobs in
-    reply (if m.exits then exit_listed kill_job u (v.process % 64) else u) m.answer m.fields
+    reply (if m.exits then exit_listed kill_job u (v.process % 64) otherwise u) m.answer m.fields
 
 -- the call f on thread n, whose record is v, its process q, comes to m
 abbrev pub Raises : (Tables → Reply) → ℕ → Thread → Process → List Job → Raised → Type 0
@@ -60,11 +60,11 @@ shown answer owner v q jobs = raised answer (OwnerField owner) false v q jobs
 -- ---- A process by its name: past the table it was never made ------------------------------------
 
 unfoldable pub own_process : ℕ → Process → Process
-own_process p q = if 64 ≤? p then no_process else q
+own_process p q = if 64 ≤? p then no_process otherwise q
 
 -- the record q under a name past the table is handed back
 unfoldable pub kept : ℕ → Process → Raised → Raised
-kept p q m = if 64 ≤? p then raised m.answer m.fields m.exits m.thread q m.jobs else m
+kept p q m = if 64 ≤? p then raised m.answer m.fields m.exits m.thread q m.jobs otherwise m
 
 -- ---- Delivery ----------------------------------------------------------------------------------
 
@@ -93,8 +93,8 @@ exits_with f =
 -- types without the bit 0x8000 also exit the process
 unfoldable pub unheard : Found → ℕ → Raised
 unheard f kind =
-    if is_synth kind then goes_on f else
-    if not (is_live_process f.process) then goes_on f else
+    if is_synth kind then goes_on f otherwise
+    if not (is_live_process f.process) then goes_on f otherwise
     exits_with f
 
 unfoldable pub delivers : Handler → Found → ℕ → ℕ → Bool → Raised
@@ -105,7 +105,7 @@ delivers (HandlerAt place) f n kind second = waits_at f place n kind second
 unfoldable pub exits_to : Handler → Found → ℕ → Raised
 exits_to Nobody f kind = shown NEXT 0 f.thread f.process f.jobs
 exits_to (HandlerAt place) f kind =
-    if f.thread.killed then shown STOP 0 f.thread f.process f.jobs else
+    if f.thread.killed then shown STOP 0 f.thread f.process f.jobs otherwise
     shown (pos 1) f.thread.process
     (waits f.thread f.thread.state (InException (exception_at kind place false))) f.process f.jobs
 
@@ -113,13 +113,13 @@ exits_to (HandlerAt place) f kind =
 
 -- while Dying, types but ThreadExiting deliver nothing
 unfoldable pub is_stopped : Thread → ℕ → Bool
-is_stopped v kind = if kind =? 0x8108 then false else v.state =? DYING
+is_stopped v kind = if kind =? 0x8108 then false otherwise v.state =? DYING
 
 unfoldable pub raises : ℕ → ℕ → Route → Thread → Process → List Job → Raised
 raises n kind route v q jobs =
     let f : Found = searched (first_stage route q) false v q jobs in
-    if is_stopped v kind then shown STOP 0 v q jobs else
-    if kind =? 0x8108 then exits_to f.at f kind else
+    if is_stopped v kind then shown STOP 0 v q jobs otherwise
+    if kind =? 0x8108 then exits_to f.at f kind otherwise
     delivers f.at f n kind false
 
 abbrev pub is_over : Exception → Bool
@@ -128,5 +128,5 @@ is_over e = e.handled or over_at_first e.place
 unfoldable pub closes : ℕ → Exception → Thread → Process → List Job → Raised
 closes n e v q jobs =
     let f : Found = searched (next_stage e.place e q jobs) e.second v q jobs in
-    if is_over e then shown (pos 0) 0 (end_wait v) q jobs else
+    if is_over e then shown (pos 0) 0 (end_wait v) q jobs otherwise
     delivers f.at f n e.kind e.second

@@ -1,7 +1,7 @@
 -- The search for a handler over the records alone: the thread, its process and the table of jobs. A stage says which
 -- handlers are left. A level that is passed and hung up becomes unbound.
 use Rattle.std.specs.Prelude.{ℕ, zero, suc, Bool, true, false, not, List, get_or, set}
-use Rattle.laws.specs.Choice.{◌=?◌, if◌then◌else◌, ite}
+use Rattle.laws.specs.Choice.{◌=?◌, if◌then◌otherwise◌, ite}
 use Rattle.record_exception.specs.declared.Level.{Level}
 use Rattle.record_exception.specs.declared.Place.{Place}
 use Rattle.record_exception.specs.declared.Place.TheVariants.{Debugger, OwnThread, OwnProcess}
@@ -44,7 +44,7 @@ unfoldable pub above_stage : Job → Stage
 above_stage w = on_parent w.parent NobodyLeft λ i. FromJob false i
 
 unfoldable pub after_debugger : ℕ → Stage
-after_debugger kind = if kind =? 0x8008 then NobodyLeft else FromThread
+after_debugger kind = if kind =? 0x8008 then NobodyLeft otherwise FromThread
 
 unfoldable pub next_stage : Place → Exception → Process → List Job → Stage
 next_stage Debugger e q jobs = after_debugger e.kind
@@ -62,29 +62,29 @@ sought goes v q = record { goes = goes; thread = v; process = q }
 
 unfoldable pub from_second_chance : Thread → Process → Bool → Sought
 from_second_chance v q second =
-    if not second then sought (Up false q.job) v q else
-    if is_bound q.level1 then sought (To SecondChance) v q else
+    if not second then sought (Up false q.job) v q otherwise
+    if is_bound q.level1 then sought (To SecondChance) v q otherwise
     sought (Up false q.job) v (with_level1 q (tried q.level1))
 
 unfoldable pub from_process : Thread → Process → Bool → Sought
 from_process v q second =
-    if is_bound q.level3 then sought (To OwnProcess) v q else
+    if is_bound q.level3 then sought (To OwnProcess) v q otherwise
     from_second_chance v (with_level3 q (tried q.level3)) second
 
 unfoldable pub from_thread : Thread → Process → Bool → Sought
 from_thread v q second =
-    if is_bound v.level2 then sought (To OwnThread) v q else
+    if is_bound v.level2 then sought (To OwnThread) v q otherwise
     from_process (with_level2 v (tried v.level2)) q second
 
 unfoldable pub from_debugger : Thread → Process → Bool → Sought
 from_debugger v q second =
-    if is_bound q.level1 then sought (To Debugger) v q else
+    if is_bound q.level1 then sought (To Debugger) v q otherwise
     from_thread v (with_level1 q (tried q.level1)) second
 
 -- level 1 and no other
 unfoldable pub alone : Place → Thread → Process → Sought
 alone place v q =
-    if is_bound q.level1 then sought (To place) v q else
+    if is_bound q.level1 then sought (To place) v q otherwise
     sought Nowhere v (with_level1 q (tried q.level1))
 
 unfoldable pub seek : Stage → Bool → Thread → Process → Sought

@@ -8,7 +8,7 @@ use native.Mathlib.Omega.{arith}
 use mathlib.Core.Path.{◌≡◌, refl, subst, sym, ◌∙◌}
 use mathlib.Core.Bool.{Bool, true, false}
 use lib.IntN.{ℤ, pos}
-use Rattle.laws.specs.Choice.{if◌then◌else◌, ◌or◌}
+use Rattle.laws.specs.Choice.{if◌then◌otherwise◌, ◌or◌}
 use Rattle.record_exception.specs.declared.Level.{Level}
 use Rattle.record_job.specs.declared.Job.{Job}
 use Rattle.record_job.specs.Job.{found_job_in}
@@ -63,7 +63,7 @@ module _ (f : Tables → Reply) (t : Tables) (n : ℕ) {v : Thread} {g : FoundLe
     (m : LevelMove) (o : OnLevel f 2 n g m) (e : g ≡ level_of_thread (found_thread_in v))
     (h : thread_at t (n % 128) ≡ v) where
   of_thread : leveled t 2 n m ≡ f t
-  unfolding found_level owners_of found_thread found_thread_in if◌then◌else◌ ◌or◌
+  unfolding found_level owners_of found_thread found_thread_in if◌then◌otherwise◌ ◌or◌
   of_thread = o t refl (rw h (sym e))
 
   pub thread_refused : {c : ℤ} {r : Move} → m ≡ Refused c → r ≡ thread.move v c → thread.moved t n r ≡ f t
@@ -72,30 +72,30 @@ module _ (f : Tables → Reply) (t : Tables) (n : ℕ) {v : Thread} {g : FoundLe
 
   pub thread_set : {l : Level} {r : Move} → m ≡ Set l → r ≡ thread.move (with_level2 v l) (pos 0) →
       thread.moved t n r ≡ f t
-  unfolding thread.moved leveled owners_of put_level if◌then◌else◌
+  unfolding thread.moved leveled owners_of put_level if◌then◌otherwise◌
   thread_set {l} d k = rw k (rw (d, h) at of_thread)
 
 -- ---- A process's two levels ---------------------------------------------------------------------------
 
 process_good : (d : Bool) → bad_level (of_process d) ≡ false
-unfolding of_process if◌then◌else◌ ◌or◌
+unfolding of_process if◌then◌otherwise◌ ◌or◌
 process_good true = refl
 process_good false = refl
 
 process_owners : (d : Bool) → owners_of (of_process d) ≡ 64
-unfolding of_process owners_of if◌then◌else◌
+unfolding of_process owners_of if◌then◌otherwise◌
 process_owners true = refl
 process_owners false = refl
 
 process_found : (d : Bool) (t : Tables) (p : ℕ) →
     found_level t (of_process d) p ≡ level_of_process (found_process_in (process_at t p)) (of_process d)
-unfolding of_process found_level found_process found_process_in if◌then◌else◌
+unfolding of_process found_level found_process found_process_in if◌then◌otherwise◌
 process_found true t p = refl
 process_found false t p = refl
 
 process_put : (d : Bool) (t : Tables) (p : ℕ) (l : Level) →
     put_level t (of_process d) p l ≡ put_process t p (with_process_level d (process_at t p) l)
-unfolding of_process with_process_level put_level if◌then◌else◌
+unfolding of_process with_process_level put_level if◌then◌otherwise◌
 process_put true t p l = refl
 process_put false t p l = refl
 
@@ -122,24 +122,24 @@ module _ (call : ChannelCall) (d : Bool) (t : Tables) (p : ℕ) {q : Process} {g
 -- ---- A job's two levels ---------------------------------------------------------------------------
 
 job_good : (d : Bool) → bad_level (of_job d) ≡ false
-unfolding of_job if◌then◌else◌ ◌or◌
+unfolding of_job if◌then◌otherwise◌ ◌or◌
 job_good true = refl
 job_good false = refl
 
 job_owners : (d : Bool) → owners_of (of_job d) ≡ 32
-unfolding of_job owners_of if◌then◌else◌
+unfolding of_job owners_of if◌then◌otherwise◌
 job_owners true = refl
 job_owners false = refl
 
 job_found : (d : Bool) (t : Tables) (n : ℕ) →
     found_level t (of_job d) n ≡ level_of_job (found_job_in (job_at t n)) (of_job d)
-unfolding of_job found_level found_job found_job_in if◌then◌else◌
+unfolding of_job found_level found_job found_job_in if◌then◌otherwise◌
 job_found true t n = refl
 job_found false t n = refl
 
 job_put : (d : Bool) (t : Tables) (n : ℕ) (l : Level) →
     put_level t (of_job d) n l ≡ put_job t n (with_job_level d (job_at t n) l)
-unfolding of_job with_job_level put_level if◌then◌else◌
+unfolding of_job with_job_level put_level if◌then◌otherwise◌
 job_put true t n l = refl
 job_put false t n l = refl
 

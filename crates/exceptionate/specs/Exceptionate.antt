@@ -1,7 +1,7 @@
 -- The calls on a level, over the record that has it: what a call gives, stored where the record was, is what the model
 -- says of the call, whatever else the tables hold.
 use Rattle.std.specs.Prelude.{ℕ, ◌%◌, ◌≡◌, Bool, false, ℤ, pos}
-use Rattle.laws.specs.Choice.{if◌then◌else◌}
+use Rattle.laws.specs.Choice.{if◌then◌otherwise◌}
 use Rattle.record_exception.specs.declared.Level.{Level}
 use Rattle.record_job.specs.declared.Job.{Job}
 use Rattle.record_job.specs.Job.{with_level4, with_level5}
@@ -47,16 +47,16 @@ OnLevel f level n g m =
 
 -- the debugger's level, or the own
 unfoldable pub of_process : Bool → ℕ
-of_process debugger = if debugger then 1 else 3
+of_process debugger = if debugger then 1 otherwise 3
 
 unfoldable pub of_job : Bool → ℕ
-of_job debugger = if debugger then 5 else 4
+of_job debugger = if debugger then 5 otherwise 4
 
 unfoldable pub with_process_level : Bool → Process → Level → Process
-with_process_level debugger q l = if debugger then with_level1 q l else with_level3 q l
+with_process_level debugger q l = if debugger then with_level1 q l otherwise with_level3 q l
 
 unfoldable pub with_job_level : Bool → Job → Level → Job
-with_job_level debugger j l = if debugger then with_level5 j l else with_level4 j l
+with_job_level debugger j l = if debugger then with_level5 j l otherwise with_level4 j l
 
 -- the call f on process p, whose record is q, comes to the move m
 abbrev pub MovesProcess : (Tables → Reply) → ℕ → Process → Move → Type 0

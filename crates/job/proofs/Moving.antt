@@ -11,7 +11,7 @@ use native.Mathlib.Nat.{mod-eq_of_lt}
 use mathlib.Core.Path.{◌≡◌, ap, sym, ◌∙◌}
 use mathlib.Core.Bool.{true, false}
 use lib.IntN.{ℤ, pos}
-use Rattle.laws.specs.Choice.{if◌then◌else◌}
+use Rattle.laws.specs.Choice.{if◌then◌otherwise◌}
 use Rattle.error.specs.Numbers.{ALREADY_EXISTS}
 use Rattle.job_policy.specs.declared.JobPolicy.{JobPolicy}
 use Rattle.job_policy.specs.Policy.{merge}
@@ -57,7 +57,7 @@ makes t job new e l k o i = rw (e, ← o, ← i, mod-eq_of_lt l, mod-eq_of_lt k)
 
 pub stays_as_it_is : {m : Killing} (t : Tables) (j : ℕ) {v : Job} (c : ℤ) →
     m ≡ killing v c false → job_at t (slot j) ≡ v → killed_in t j m ≡ answered t c
-unfolding killed_in if◌then◌else◌
+unfolding killed_in if◌then◌otherwise◌
 stays_as_it_is t j c e h = rw (e, job_kept t (slot j) h)
 
 -- a killed job: nothing is done
@@ -72,7 +72,7 @@ pub kills_here : {m : Killing} (t : Tables) (j : ℕ) {v : Job} →
     m ≡ killing (terminated (killed v)) (pos 0) false → j < 32 → job_at t (slot j) ≡ v → v.made ≡ true →
     v.killed ≡ false → kills_alone t.jobs t.processes j ≡ true →
     killed_in t j m ≡ answered (kill_job t j) (pos 0)
-unfolding killed_in if◌then◌else◌
+unfolding killed_in if◌then◌otherwise◌
 kills_here t j {v} e l h y k a =
     let at : job_at t j ≡ v = job_at_lem t j l h in
     let one : put_job t j (terminated (killed v)) ≡ kill_job t j =
@@ -81,7 +81,7 @@ kills_here t j {v} e l h y k a =
 
 pub kills_on : {m : Killing} (t : Tables) (j : ℕ) {v : Job} →
     m ≡ killing v (pos 0) true → job_at t (slot j) ≡ v → killed_in t j m ≡ answered (kill_job t j) (pos 0)
-unfolding killed_in if◌then◌else◌
+unfolding killed_in if◌then◌otherwise◌
 kills_on t j e h = rw (e, job_kept t (slot j) h)
 
 -- ---- 0f, 10 ------------------------------------------------------------------------------------
@@ -100,13 +100,13 @@ sets t j set c e l h = rw (e, job_kept t (slot j) h, mod-eq_of_lt l)
 pub sets_some : {m : Move} (t : Tables) (j : ℕ) {v : Job} (w : Work) →
     m ≡ move v w.own ALREADY_EXISTS → w.refused ≡ true → j < 32 → job_at t (slot j) ≡ v →
     moved t j m ≡ policy_set t j (setting_of w)
-unfolding policy_set if◌then◌else◌
+unfolding policy_set if◌then◌otherwise◌
 sets_some t j w e r l h = rw r (sets t j w.own ALREADY_EXISTS e l h)
 
 pub sets_all : {m : Move} (t : Tables) (j : ℕ) {v : Job} (w : Work) →
     m ≡ move v w.own (pos 0) → w.refused ≡ false → j < 32 → job_at t (slot j) ≡ v →
     moved t j m ≡ policy_set t j (setting_of w)
-unfolding policy_set if◌then◌else◌
+unfolding policy_set if◌then◌otherwise◌
 sets_all t j w e r l h = rw r (sets t j w.own (pos 0) e l h)
 
 -- what stands beside the jobs is not touched by storing one

@@ -1,7 +1,7 @@
 -- The calls on a job, over the records that they name: what a call gives, stored where the records were, is what the
 -- model says of the call, whatever else the tables hold.
 use Rattle.std.specs.Prelude.{ℕ, ◌%◌, ◌≡◌, Bool, true, ℤ}
-use Rattle.laws.specs.Choice.{if◌then◌else◌}
+use Rattle.laws.specs.Choice.{if◌then◌otherwise◌}
 use Rattle.job_policy.specs.declared.JobPolicy.{JobPolicy}
 use Rattle.record_job.specs.declared.Job.{Job}
 use Rattle.records.specs.declared.tables.Tables.{Tables}
@@ -44,7 +44,7 @@ killing v answer kills = record { answer = answer; kills = kills; job = v }
 unfoldable pub killed_in : Tables → ℕ → Killing → Reply
 killed_in t j m =
     let u : Tables = put_job t (slot j) m.job in
-    answered (if m.kills then kill_job u j else u) m.answer
+    answered (if m.kills then kill_job u j otherwise u) m.answer
 
 abbrev pub Kills : (Tables → Reply) → ℕ → Job → Bool → Killing → Type 0
 Kills f job j alone m =

@@ -1,7 +1,7 @@
 -- How the code goes through a list once: what is known at the start, after an entry, and what is
 -- answered at the end. `one-pass` of proofs/Fold.antt takes this to `setPolicyBasic` of model.
 use Rattle.std.specs.Prelude.{ℕ, Bool, true, false, not, List, [], ◌∷◌}
-use Rattle.laws.specs.Choice.{◌≤?◌, ◌<?◌, ◌=?◌, if◌then◌else◌}
+use Rattle.laws.specs.Choice.{◌≤?◌, ◌<?◌, ◌=?◌, if◌then◌otherwise◌}
 use Rattle.laws.specs.Guarded.{ok, ◌>>◌, ◌>>=◌, refuse◌when◌, deny◌when◌}
 use Rattle.error.specs.Numbers.{BAD_STATE}
 use Rattle.job_policy.specs.declared.JobPolicy.{JobPolicy}
@@ -30,14 +30,14 @@ begin_work t j option = start_work (own_at t j) (inherited_at t j) option
 unfoldable pub enter_work : Work → BasicPolicy → Work
 enter_work w b =
     if is_set (get_action w.inherited b.condition) then
-    (if w.option =? 0 then work w.own w.inherited w.option w.bad true else w) else
+    (if w.option =? 0 then work w.own w.inherited w.option w.bad true otherwise w) otherwise
     work (apply w.own b) w.inherited w.option w.bad w.refused
 
 -- a bad entry is noted and nothing else, and after a refused one nothing is set
 unfoldable pub step_work : Work → BasicPolicy → Work
 step_work w b =
-    if bad_entry b then work w.own w.inherited w.option true w.refused else
-    if w.refused then w else
+    if bad_entry b then work w.own w.inherited w.option true w.refused otherwise
+    if w.refused then w otherwise
     enter_work w b
 
 -- what is known after these entries

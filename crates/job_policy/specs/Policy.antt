@@ -1,7 +1,7 @@
 -- A job's policy: fifteen entries, 0 for none and a + 1 for the action a. Follows job_policy.rs. A condition of 15
 -- or more has no entry, and an action of 5 or more is no action: nothing is set.
 use Rattle.std.specs.Prelude.{ℕ, ◌+◌, ◌-◌, ◌<◌, ◌≡◌, get_or, set, replicate}
-use Rattle.laws.specs.Choice.{◌≤?◌, ◌=?◌, if◌then◌else◌}
+use Rattle.laws.specs.Choice.{◌≤?◌, ◌=?◌, if◌then◌otherwise◌}
 use Rattle.laws.specs.Lists.{zip}
 use Rattle.job_policy.specs.declared.JobPolicy.{JobPolicy}
 use Rattle.job_policy.specs.declared.BasicPolicy.{BasicPolicy}
@@ -14,18 +14,18 @@ no_policy = record { action = replicate 15 0 }
 unfoldable pub get_action : JobPolicy → ℕ → ActionFound
 get_action p condition =
     let entry = get_or p.action condition 0 in
-    if 15 ≤? condition then Unset else
-    if entry =? 0 then Unset else
+    if 15 ≤? condition then Unset otherwise
+    if entry =? 0 then Unset otherwise
     Action (entry - 1)
 
 unfoldable pub apply : JobPolicy → BasicPolicy → JobPolicy
 apply p b =
-    if 15 ≤? b.condition then p else
-    if 5 ≤? b.action then p else
+    if 15 ≤? b.condition then p otherwise
+    if 5 ≤? b.action then p otherwise
     record { action = set p.action b.condition (b.action + 1) }
 
 unfoldable pub merged_action : ℕ → ℕ → ℕ
-merged_action own parent = if parent =? 0 then own else parent
+merged_action own parent = if parent =? 0 then own otherwise parent
 
 unfoldable pub merge : JobPolicy → JobPolicy → JobPolicy
 merge own parent = record { action = zip merged_action own.action parent.action }

@@ -1,7 +1,7 @@
 -- Timer slack of a job: an amount of at least 0 and a mode. Follows job_policy.rs.
 use Rattle.std.specs.Prelude.{ℕ, ℤ, pos}
 use Rattle.std.specs.Int.Signed.{lt_z}
-use Rattle.laws.specs.Choice.{if◌then◌else◌}
+use Rattle.laws.specs.Choice.{if◌then◌otherwise◌}
 use Rattle.job_policy.specs.declared.TimerSlack.{TimerSlack}
 use Rattle.job_policy.specs.declared.TimerSlackPolicy.{TimerSlackPolicy}
 
@@ -9,7 +9,7 @@ abbrev pub fresh_slack : TimerSlack
 fresh_slack = record { amount = pos 0; mode = 0 }
 
 unfoldable pub larger : ℤ → ℤ → ℤ
-larger a b = if lt_z a b then b else a
+larger a b = if lt_z a b then b otherwise a
 
 abbrev pub slack_of : ℤ → ℕ → TimerSlack
 slack_of amount mode = record { amount = amount; mode = mode }

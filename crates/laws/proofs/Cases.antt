@@ -6,7 +6,7 @@
 use mathlib.Core.Path.{◌≡◌, refl, sym, ◌∙◌, subst}
 use mathlib.Core.Bool.{Bool, true, false, true≢false}
 use lib.IntN.{ℤ}
-use Rattle.laws.specs.Choice.{◌and◌, if◌then◌else◌, ite}
+use Rattle.laws.specs.Choice.{◌and◌, if◌then◌otherwise◌, ite}
 use Rattle.laws.specs.Guarded.{Result, found, missing, guard, Guarded, ok, ◌>>=◌, ◌>>◌}
 use Rattle.laws.specs.Guarded.{settle}
 
@@ -89,8 +89,8 @@ ite_on P true x y p q = p refl
 ite_on P false x y p q = q refl
 
 pub if_on {ℓ} : {A : Type 0} (P : A → Type ℓ) (b : Bool) (x y : A) →
-    (b ≡ true → P x) → (b ≡ false → P y) → P (if b then x else y)
-unfolding if◌then◌else◌
+    (b ≡ true → P x) → (b ≡ false → P y) → P (if b then x otherwise y)
+unfolding if◌then◌otherwise◌
 if_on P true x y p q = p refl
 if_on P false x y p q = q refl
 
@@ -105,8 +105,8 @@ ite_two R false false x y z w e p q = q refl refl
 
 pub if_two {ℓ} : {A : Type 0} (R : A → A → Type ℓ) (b c : Bool) (x y z w : A) → b ≡ c
     → (b ≡ true → c ≡ true → R x z) → (b ≡ false → c ≡ false → R y w)
-    → R (if b then x else y) (if c then z else w)
-unfolding if◌then◌else◌
+    → R (if b then x otherwise y) (if c then z otherwise w)
+unfolding if◌then◌otherwise◌
 if_two R true true x y z w e p q = p refl refl
 if_two R true false x y z w e p q = no_both refl e
 if_two R false true x y z w e p q = no_both e refl

@@ -7,7 +7,7 @@ use mathlib.Core.Path.{◌≡◌, sym, ◌∙◌, ap}
 use mathlib.Core.Bool.{Bool, true, false, not}
 use lib.IntN.{ℤ}
 use borrow.Author.Tests.{le-leb, lt-leb, lt-ltb, le-ltb, eq-eqb, ne_eqb}
-use Rattle.laws.specs.Choice.{◌and◌, ◌or◌, if◌then◌else◌, ite}
+use Rattle.laws.specs.Choice.{◌and◌, ◌or◌, if◌then◌otherwise◌, ite}
 use Rattle.laws.specs.Guarded.{Result, found, missing, guard, Guarded, ok, ◌>>=◌, ◌>>◌}
 use Rattle.laws.specs.Guarded.{settle}
 
@@ -52,12 +52,12 @@ module _ {A : Type 0} where
   unfolding ite
   no x y e h = rw e h
 
-  pub first : {b : Bool} {z : A} (x y : A) → b ≡ true → z ≡ x → z ≡ if b then x else y
-  unfolding if◌then◌else◌
+  pub first : {b : Bool} {z : A} (x y : A) → b ≡ true → z ≡ x → z ≡ if b then x otherwise y
+  unfolding if◌then◌otherwise◌
   first x y e h = rw e h
 
-  pub second : {b : Bool} {z : A} (x y : A) → b ≡ false → z ≡ y → z ≡ if b then x else y
-  unfolding if◌then◌else◌
+  pub second : {b : Bool} {z : A} (x y : A) → b ≡ false → z ≡ y → z ≡ if b then x otherwise y
+  unfolding if◌then◌otherwise◌
   second x y e h = rw e h
 
 -- ---- Tests ---------------------------------------------------------------------------------

@@ -1,5 +1,5 @@
 -- Tests, choices and signed numbers as the definitions write them.
---     if b then x else y      a choice between values
+--     if b then x otherwise y      a choice between values
 --     ite b (λ _. x) λ _. y   the same where a way recurs: only the way that is taken is computed
 -- All but the tests on numbers are shut, so that a law about a choice finds its parts by itself.
 use Rattle.std.specs.Prelude.{ℕ, Bool, true, false, leb, ltb, eqb, ℤ, pos, negsuc, neg_ℤ}
@@ -34,10 +34,10 @@ unfoldable pub ◌or◌ : Bool → Bool → Bool
 true or b = true
 false or b = b
 
-infixr 15 if◌then◌else◌
-unfoldable pub if◌then◌else◌ : {A : Type 0} → Bool → A → A → A
-if true then x else y = x
-if false then x else y = y
+infixr 15 if◌then◌otherwise◌
+unfoldable pub if◌then◌otherwise◌ : {A : Type 0} → Bool → A → A → A
+if true then x otherwise y = x
+if false then x otherwise y = y
 
 unfoldable pub ite : {A : Type 0} → Bool → (Unit {0} → A) → (Unit {0} → A) → A
 ite true x y = x tt

@@ -19,7 +19,7 @@ use lib.Signed.{lt_z, non_neg}
 use mir.Syntax.{w64}
 use mir.Val.{Fits, SFits, to_z, of_z}
 use mir.Facts.{to_z-of_z, to_z_pos, to_z-neg}
-use Rattle.laws.specs.Choice.{if◌then◌else◌}
+use Rattle.laws.specs.Choice.{if◌then◌otherwise◌}
 use Rattle.lines.specs.Line.{MINUS, digit, text_within, decimal_text, last_digits, signed_text}
 use Rattle.lines.specs.Line.{Put}
 use Rattle.lines.proofs.Puts.{put_then}
@@ -35,18 +35,18 @@ module _ (n : ℕ) (h : n < 10) where
   last_digit = rw itself
 
   pub one_digit : last_digits 1 n ≡ decimal_text n
-  unfolding decimal_text text_within last_digits if◌then◌else◌
+  unfolding decimal_text text_within last_digits if◌then◌otherwise◌
   one_digit = rw (lt-ltb n 10 h, itself)
 
 -- one digit more
 within_ten : (f n : ℕ) → 10 ≤ n →
     text_within (suc f) n ≡ text_within f (n / 10) ++ digit (n % 10) ∷ []
-unfolding text_within if◌then◌else◌
+unfolding text_within if◌then◌otherwise◌
 within_ten f n h = rw (le-ltb n 10 h)
 
 -- room for more digits than there are changes nothing
 within_stays : (f n : ℕ) → n < 10 ^ suc f → text_within f n ≡ text_within (suc f) n
-unfolding text_within if◌then◌else◌
+unfolding text_within if◌then◌otherwise◌
 within_stays zero n h = rw (lt-ltb n 10 h, itself n h)
 within_stays (suc f) n h =
     let l : n / 10 < 10 ^ suc f = omega (arith, pow-suc 10 (suc f)) in

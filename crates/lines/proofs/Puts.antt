@@ -13,7 +13,7 @@ use mathlib.Core.List.{List, [], ◌∷◌, ◌++◌, append_assoc, append-nil}
 use lib.ListN.{length, set, take, length-append, length-set}
 use lib.Seq.{take-suc-set}
 use borrow.Author.Tests.{lt-ltb, le-ltb}
-use Rattle.laws.specs.Choice.{if◌then◌else◌}
+use Rattle.laws.specs.Choice.{if◌then◌otherwise◌}
 use Rattle.lines.specs.Line.{within, Put}
 
 pub put_then : {a b c : List ℕ} {i j k : ℕ} {x y : List ℕ} →
@@ -33,16 +33,16 @@ put_none l at = record { end = omega arith; holds = sym (append-nil (take at l))
 
 pub no_room : (l : List ℕ) (at : ℕ) (line : List ℕ) → length l - at < 128 →
     Put l l at at (within (length l - at) line)
-unfolding within if◌then◌else◌
+unfolding within if◌then◌otherwise◌
 no_room l at line h = rw (lt-ltb _ _ h) (put_none l at)
 
 module _ {a b : List ℕ} {at r : ℕ} {line : List ℕ} (h : 128 ≤ length a - at) where
   pub with_room : Put a b at r line → Put a b at r (within (length a - at) line)
-  unfolding within if◌then◌else◌
+  unfolding within if◌then◌otherwise◌
   with_room p = rw (le-ltb _ _ h) p
 
   pub roomy : Put a b at r (within (length a - at) line) → Put a b at r line
-  unfolding within if◌then◌else◌
+  unfolding within if◌then◌otherwise◌
   roomy p = rw (le-ltb _ _ h) at p
 
 -- after i turns, with the next byte to go to o

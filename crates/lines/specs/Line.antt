@@ -1,7 +1,7 @@
 -- A reply as a line of text, in ASCII: the call's number, its answer, then its fields, each after
 -- one space. Read it beside document 01, "Commands of the recorder".
 use Rattle.std.specs.Prelude.{ℕ, zero, suc, ◌+◌, ◌/◌, ◌%◌, ◌≡◌, Bool, true, false, List, [], ◌∷◌, ◌++◌, ℤ, pos, negsuc, length, take}
-use Rattle.laws.specs.Choice.{◌<?◌, if◌then◌else◌}
+use Rattle.laws.specs.Choice.{◌<?◌, if◌then◌otherwise◌}
 use Rattle.job_policy.specs.Policy.{get_action}
 use Rattle.job_policy.specs.declared.JobPolicy.{JobPolicy}
 use Rattle.job_policy.specs.declared.ActionFound.{ActionFound}
@@ -30,7 +30,7 @@ digit d = 48 + d
 unfoldable pub text_within : ℕ → ℕ → List ℕ
 text_within zero n = digit (n % 10) ∷ []
 text_within (suc f) n =
-    if n <? 10 then digit n ∷ [] else
+    if n <? 10 then digit n ∷ [] otherwise
     text_within f (n / 10) ++ digit (n % 10) ∷ []
 
 -- a number of 64 bits has at most 20 digits
@@ -105,7 +105,7 @@ stop_line number = decimal_text number ++ field (115 ∷ 116 ∷ 111 ∷ 112 ∷
 
 -- nothing, where there is no room for every line
 unfoldable pub within : (room : ℕ) (line : List ℕ) → List ℕ
-within room line = if room <? 128 then [] else line
+within room line = if room <? 128 then [] otherwise line
 
 -- ---- What the contracts say ----------------------------------------------------------------
 

@@ -11,7 +11,7 @@ use mathlib.Core.Bool.{Bool, true, false}
 use mathlib.Core.List.{List, [], ◌∷◌}
 use lib.ListN.{length, get_or, drop, length-drop, drop_of_length-le}
 use lib.Seq.{drop-cons, get_or-drop}
-use Rattle.laws.specs.Choice.{if◌then◌else◌}
+use Rattle.laws.specs.Choice.{if◌then◌otherwise◌}
 use Rattle.laws.proofs.Cases.{by}
 use Rattle.records.specs.declared.tables.Tables.{Tables}
 use Rattle.model.specs.Job.{up_to}
@@ -20,11 +20,11 @@ use Rattle.lists.specs.Next.{skipped, next}
 
 module _ {A : Type 0} (f : A → Bool) (l : List A) (i : ℕ) where
   pub next_here : {b : Bool} (d : A) → i < length l → b ≡ f (get_or l i d) → b ≡ true → i ≡ next f l i
-  unfolding next skipped if◌then◌else◌
+  unfolding next skipped if◌then◌otherwise◌
   next_here d h e q = rw (drop-cons l i d h, ← e, q) (omega arith)
 
   pub next_on : {b : Bool} (d : A) → i < length l → b ≡ f (get_or l i d) → b ≡ false → next f l (i + 1) ≡ next f l i
-  unfolding next skipped if◌then◌else◌
+  unfolding next skipped if◌then◌otherwise◌
   next_on d h e q = rw (drop-cons l i d h, ← e, q, add-one) (omega arith)
 
   pub next_end : length l ≤ i → i ≡ next f l i
@@ -33,12 +33,12 @@ module _ {A : Type 0} (f : A → Bool) (l : List A) (i : ℕ) where
 
 module _ {A : Type 0} (f : A → Bool) where
   skipped_le : (m : List A) → skipped f m ≤ length m
-  unfolding skipped if◌then◌else◌
+  unfolding skipped if◌then◌otherwise◌
   skipped_le [] = omega arith
   skipped_le (x ∷ m) = by (f x) (λ a. rw a (omega arith)) (λ a. rw a (omega (arith, skipped_le m)))
 
   skipped_passes : (m : List A) (d : A) → skipped f m < length m → f (get_or m (skipped f m) d) ≡ true
-  unfolding skipped if◌then◌else◌
+  unfolding skipped if◌then◌otherwise◌
   skipped_passes [] d h = absurd (omega arith)
   skipped_passes (x ∷ m) d h =
       by (f x) (λ a. rw (a, a)) (λ a. rw a (skipped_passes m d (omega (arith, rw a at h))))
@@ -62,7 +62,7 @@ module _ {A : Type 0} (f : A → Bool) where
   module _ (g : ℕ → Tables → Tables) (l : List A) (d : A) (u t : Tables)
       (kept : (k : ℕ) → f (get_or l k d) ≡ false → u ≡ g k u) where
     skips_in : (m : List A) (i : ℕ) → drop i l ≡ m → u ≡ up_to i g t → u ≡ up_to (i + skipped f m) g t
-    unfolding skipped if◌then◌else◌
+    unfolding skipped if◌then◌otherwise◌
     skips_in [] i e h = h ∙ ap (λ (k : ℕ). up_to k g t) (omega arith)
     skips_in (x ∷ m) i e h =
         let k : i < length l = omega (arith, length-drop i l, ap length e) in

@@ -3,7 +3,7 @@ use mathlib.Core.Path.{refl}
 use Rattle.job_policy.proofs.Laws as policy
 use Rattle.job_policy.specs.Policy.{get_action, apply, merged_action, merge}
 use Rattle.job_policy.specs.Slack.{larger, generate_new}
-use Rattle.laws.specs.Choice.{◌and◌, ◌or◌, if◌then◌else◌, ite}
+use Rattle.laws.specs.Choice.{◌and◌, ◌or◌, if◌then◌otherwise◌, ite}
 use Rattle.laws.specs.Guarded.{settle}
 use Rattle.laws.specs.Lists.{any, zip}
 use Rattle.model.specs.Exception.{is_hardware, route_of, owner_of, level_at, put_level_at}
@@ -52,7 +52,7 @@ use Rattle.records.specs.Tables.{put_thread, put_token}
 use Rattle.model.specs.Cases.{Run, Cases}
 
 pub cases : Cases
-unfolding Run get_action apply merged_action merge larger generate_new ◌and◌ ◌or◌ if◌then◌else◌ ite settle any zip
+unfolding Run get_action apply merged_action merge larger generate_new ◌and◌ ◌or◌ if◌then◌otherwise◌ ite settle any zip
     is_hardware route_of owner_of level_at put_level_at pass_over try_at search_up from_jobs from_second_chance from_process
     from_thread from_debugger first_handler next_handler unhandled deliver raise_exiting raise close bind_level
     hang_up_level raise_exception close_exception set_state set_strategy get_process_handle lists_child lists_process

@@ -5,7 +5,7 @@ use mathlib.Core.Path.{◌≡◌, refl}
 use mathlib.Core.Bool.{Bool, false}
 use mathlib.Core.List.{List}
 use lib.IntN.{ℤ, pos}
-use Rattle.laws.specs.Choice.{◌or◌, if◌then◌else◌}
+use Rattle.laws.specs.Choice.{◌or◌, if◌then◌otherwise◌}
 use Rattle.laws.specs.Guarded.{Guarded}
 use Rattle.laws.proofs.Cases.{if_on}
 use Rattle.laws.proofs.Within.{Missing, found_in, missing_in, Within, within, settle_within}
@@ -122,11 +122,11 @@ ruleset answer = (accepted, first, later)
 -- a choice between two feet, or between two answers
 module _ {t : Tables} {c : Call} where
   either : (b : Bool) (x y : Reply) → Outcome t c x → Outcome t c y
-      → Outcome t c (if b then x else y)
+      → Outcome t c (if b then x otherwise y)
   either b x y p q = if_on (Outcome t c) b x y (λ _. p) λ _. q
 
   either_answer : (u : Tables) (b : Bool) (x y : ℤ) → Outcome t c (answered u x)
-      → Outcome t c (answered u y) → Outcome t c (answered u (if b then x else y))
+      → Outcome t c (answered u y) → Outcome t c (answered u (if b then x otherwise y))
   either_answer u b x y p q = if_on (λ z. Outcome t c (answered u z)) b x y (λ _. p) λ _. q
 
 -- an exception delivered: the level, or -61

@@ -8,7 +8,7 @@ use mathlib.Core.Bool.{Bool, true, false}
 use mathlib.Core.List.{List, [], ◌∷◌}
 use lib.IntN.{ℤ}
 use lib.ListN.{get_or, set}
-use Rattle.laws.specs.Choice.{if◌then◌else◌}
+use Rattle.laws.specs.Choice.{if◌then◌otherwise◌}
 use Rattle.laws.proofs.Cases.{no_both, ite_on}
 use Rattle.record_job.specs.declared.Job.{Job}
 use Rattle.record_job.specs.Job.{no_job, killed, terminated}
@@ -27,8 +27,8 @@ use Rattle.model.proofs.Keeps.{exit_within_keeps}
 
 -- ---- The count of a list after a store -----------------------------------------------------
 
-one_le : (b c : Bool) → (b ≡ true → c ≡ true) → (if b then 1 else 0) ≤ (if c then 1 else 0)
-unfolding if◌then◌else◌
+one_le : (b c : Bool) → (b ≡ true → c ≡ true) → (if b then 1 otherwise 0) ≤ (if c then 1 otherwise 0)
+unfolding if◌then◌otherwise◌
 one_le true c h = rw (h refl) (le_refl 1)
 one_le false true h = omega arith
 one_le false false h = le_refl 0
@@ -44,7 +44,7 @@ module _ {A : Type 0} (f : A → Bool) (d : A) where
   pub count_set_lt : f d ≡ false → (l : List A) (i : ℕ) (v : A) → f (get_or l i d) ≡ true
       → f v ≡ false
       → count f (set l i v) < count f l
-  unfolding count if◌then◌else◌
+  unfolding count if◌then◌otherwise◌
   count_set_lt z [] i v g h = no_both g z
   count_set_lt z (x ∷ l) zero v g h = rw (g, h) (omega arith)
   count_set_lt z (x ∷ l) (suc i) v g h = omega (arith, count_set_lt z l i v g h)

@@ -2,7 +2,7 @@
 -- Follows exception.rs, `handle_exception` of thread.rs and document 01 (Exceptions). A place stands for the Rust's
 -- iterators.
 use Rattle.std.specs.Prelude.{ℕ, zero, suc, Bool, true, false, not, ℤ, pos}
-use Rattle.laws.specs.Choice.{◌≤?◌, ◌=?◌, ◌or◌, if◌then◌else◌, ite}
+use Rattle.laws.specs.Choice.{◌≤?◌, ◌=?◌, ◌or◌, if◌then◌otherwise◌, ite}
 use Rattle.error.specs.Numbers.{STOP, NEXT}
 use Rattle.record_exception.specs.declared.Level.{Level}
 use Rattle.record_exception.specs.declared.Place.{Place}
@@ -40,11 +40,11 @@ is_hardware kind =
 -- PolicyError 0x8208 are ordinary
 unfoldable pub route_of : ℕ → Route
 route_of kind =
-    if is_hardware kind then Ordinary else
-    if (kind =? 0x8000) or (kind =? 0x8208) then Ordinary else
-    if kind =? 0x8308 then JobDebuggers else
-    if kind =? 0x8008 then DebuggerOnly else
-    if kind =? 0x8108 then ToExiting else
+    if is_hardware kind then Ordinary otherwise
+    if (kind =? 0x8000) or (kind =? 0x8208) then Ordinary otherwise
+    if kind =? 0x8308 then JobDebuggers otherwise
+    if kind =? 0x8008 then DebuggerOnly otherwise
+    if kind =? 0x8108 then ToExiting otherwise
     NoType
 
 abbrev pub is_no_type : Route → Bool
@@ -126,7 +126,7 @@ from_jobs t n = search_up 32 OfJob t n (own_job t n)
 -- second chance is read when level 3 is left
 unfoldable pub from_second_chance : Tables → ℕ → Bool → Search
 from_second_chance t n second =
-    if second then try_at t n SecondChance (λ u. from_jobs u n) else from_jobs t n
+    if second then try_at t n SecondChance (λ u. from_jobs u n) otherwise from_jobs t n
 
 unfoldable pub from_process : Tables → ℕ → Bool → Search
 from_process t n second = try_at t n OwnProcess λ u. from_second_chance u n second
@@ -147,7 +147,7 @@ first_handler NoType t n = no_handler t
 
 -- the handler after one that closed without handling; ThreadStarting goes to level 1 only
 unfoldable pub next_handler : Place → Tables → ℕ → Exception → Search
-next_handler Debugger t n e = if e.kind =? 0x8008 then no_handler t else from_thread t n e.second
+next_handler Debugger t n e = if e.kind =? 0x8008 then no_handler t otherwise from_thread t n e.second
 next_handler OwnThread t n e = from_process t n e.second
 next_handler OwnProcess t n e = from_second_chance t n e.second
 next_handler SecondChance t n e = from_jobs t n
@@ -178,7 +178,7 @@ over_tables t n = put_thread t n (end_wait (thread_at t n))
 -- nobody handled it: types without the bit 0x8000 also exit the process
 unfoldable pub unhandled : Tables → ℕ → ℕ → Tables
 unhandled t n kind =
-    if is_synth kind then over_tables t n else exit_process (over_tables t n) (process_of t n) KILL_CODE
+    if is_synth kind then over_tables t n otherwise exit_process (over_tables t n) (process_of t n) KILL_CODE
 
 unfoldable pub deliver : Handler → Tables → ℕ → ℕ → Bool → Reply
 deliver Nobody t n kind second = outcome (unhandled t n kind) NEXT
@@ -194,8 +194,8 @@ delivered s n kind second = deliver s.at s.tables n kind second
 -- (M11)
 unfoldable pub raise_exiting : Tables → ℕ → ℕ → Reply
 raise_exiting t n kind =
-    if not (is_bound (level_at t n Exiting)) then outcome (pass_over t n Exiting) NEXT else
-    if (thread_at t n).killed then outcome t STOP else
+    if not (is_bound (level_at t n Exiting)) then outcome (pass_over t n Exiting) NEXT otherwise
+    if (thread_at t n).killed then outcome t STOP otherwise
     reply (put_thread t n (waits (thread_at t n) (thread_at t n).state
     (InException (exception_at kind Exiting false))))
     (pos 1) (OwnerField (process_of t n))
@@ -203,12 +203,12 @@ raise_exiting t n kind =
 -- other types raised while Dying deliver nothing
 unfoldable pub raise : Tables → ℕ → ℕ → Reply
 raise t n kind =
-    if kind =? 0x8108 then raise_exiting t n kind else
-    if (thread_at t n).state =? DYING then outcome t STOP else
+    if kind =? 0x8108 then raise_exiting t n kind otherwise
+    if (thread_at t n).state =? DYING then outcome t STOP otherwise
     delivered (first_handler (route_of kind) t n) n kind false
 
 -- a handler closes its exception
 unfoldable pub close : Tables → ℕ → Exception → Reply
 close t n e =
-    if e.handled or over_at_first e.place then outcome (over_tables t n) (pos 0) else
+    if e.handled or over_at_first e.place then outcome (over_tables t n) (pos 0) otherwise
     delivered (next_handler e.place t n e) n e.kind e.second

@@ -1,7 +1,7 @@
 -- Jobs and processes: lists, terminations upward, and killing, exiting and ending, which call one another. Follows
 -- job.rs and process.rs, with what their comments quote of Zircon, and document 01.
 use Rattle.std.specs.Prelude.{ℕ, zero, suc, ◌+◌, Bool, true, false, not, List, [], ◌∷◌, map, ℤ}
-use Rattle.laws.specs.Choice.{◌=?◌, ◌and◌, if◌then◌else◌, ite}
+use Rattle.laws.specs.Choice.{◌=?◌, ◌and◌, if◌then◌otherwise◌, ite}
 use Rattle.laws.specs.Lists.{any}
 use Rattle.record_job.specs.declared.Parent.{Parent}
 use Rattle.record_job.specs.declared.Parent.TheVariants.{Orphan, ChildOf}
@@ -68,7 +68,7 @@ terminate_job t j = terminate_up 32 t j
 -- ---- Threads of a process --------------------------------------------------------------------
 
 unfoldable pub stop_in : ℕ → Thread → Thread
-stop_in p v = if thread_of v p then kill v else v
+stop_in p v = if thread_of v p then kill v otherwise v
 
 -- every listed thread is killed
 unfoldable pub stop_threads : Tables → ℕ → Tables
@@ -96,7 +96,7 @@ kill_child K j c t = ite (child_of (job_at t c) j) (λ _. K t c) λ _. t
 unfoldable pub exit_member : (Tables → ℕ → ℤ → Tables) → ℕ → ℕ → Tables → Tables
 exit_member X j p t = ite (member_of (process_at t p) j) (λ _. X t p KILL_CODE) λ _. t
 
--- a job marked killed: an empty one terminates, else children come first, then processes
+-- a job marked killed: an empty one terminates, otherwise children come first, then processes
 unfoldable pub kill_listed : (Tables → ℕ → Tables) → (Tables → ℕ → ℤ → Tables) → Tables → ℕ → Tables
 kill_listed K X t j =
     ite (job_empty t j) (λ _. terminate_job t j) λ _.
@@ -116,7 +116,7 @@ kill_bound K (To j nonzero) code t = ite (acts nonzero code) (λ _. K t j) λ _.
 unfoldable pub unlist_process : Tables → ℕ → Tables
 unlist_process t p =
     let u : Tables = put_process t p (ended (process_at t p)) in
-    if may_terminate u (process_at t p).job then terminate_job u (process_at t p).job else u
+    if may_terminate u (process_at t p).job then terminate_job u (process_at t p).job otherwise u
 
 -- `Process::terminate`
 unfoldable pub end_step : (Tables → ℕ → Tables) → Tables → ℕ → Tables
@@ -146,7 +146,7 @@ unfoldable mutual
 
 unfoldable pub count : {A : Type 0} → (A → Bool) → List A → ℕ
 count f [] = 0
-count f (x ∷ l) = (if f x then 1 else 0) + count f l
+count f (x ∷ l) = (if f x then 1 otherwise 0) + count f l
 
 -- unkilled jobs and unexited processes: each step of a cascade marks one, so none is deeper
 unfoldable pub remaining : Tables → ℕ
@@ -163,7 +163,7 @@ end_process t p = end_step kill_job t p
 
 -- `Process::remove_thread`: a process ends when its last listed thread finishes (M7)
 abbrev pub remove_thread : Tables → ℕ → Tables
-remove_thread t p = if lists_thread t p then t else end_process t p
+remove_thread t p = if lists_thread t p then t otherwise end_process t p
 
 -- `Thread::terminate`
 unfoldable pub finish_thread : Tables → ℕ → Tables

@@ -1,7 +1,7 @@
 -- Policies of jobs and processes in the tables. Follows `set_policy_basic` of job.rs and
 -- `check_policy` of process.rs, with what their comments quote of Zircon.
 use Rattle.std.specs.Prelude.{ℕ, Bool, true, false, not, List, [], ◌∷◌, pos}
-use Rattle.laws.specs.Choice.{◌≤?◌, ◌=?◌, ◌or◌, if◌then◌else◌, ite}
+use Rattle.laws.specs.Choice.{◌≤?◌, ◌=?◌, ◌or◌, if◌then◌otherwise◌, ite}
 use Rattle.error.specs.Numbers.{ALREADY_EXISTS}
 use Rattle.job_policy.specs.declared.JobPolicy.{JobPolicy}
 use Rattle.job_policy.specs.declared.BasicPolicy.{BasicPolicy}
@@ -44,7 +44,7 @@ set_each option inherited own (b ∷ l) =
 
 -- the entries before a refused one stay set: the one refusal that leaves a change
 unfoldable pub policy_set : Tables → ℕ → Setting → Reply
-policy_set t j s = answered (put_own t j s.own) (if s.refused then ALREADY_EXISTS else pos 0)
+policy_set t j s = answered (put_own t j s.own) (if s.refused then ALREADY_EXISTS otherwise pos 0)
 
 unfoldable pub set_policy : Tables → ℕ → ℕ → List BasicPolicy → Reply
 set_policy t j option l = policy_set t j (set_each option (inherited_at t j) (own_at t j) l)

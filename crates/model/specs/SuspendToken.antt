@@ -2,7 +2,7 @@
 -- of thread.rs and process.rs. A thread is concerned if it is the one named (kind 2), or listed by
 -- the process named (kind 1).
 use Rattle.std.specs.Prelude.{ℕ, Bool, map}
-use Rattle.laws.specs.Choice.{◌=?◌, ◌and◌, if◌then◌else◌}
+use Rattle.laws.specs.Choice.{◌=?◌, ◌and◌, if◌then◌otherwise◌}
 use Rattle.laws.specs.Lists.{any}
 use Rattle.record_thread.specs.declared.Thread.{Thread}
 use Rattle.record_thread.specs.Thread.{suspend, resume, thread_of}
@@ -18,16 +18,16 @@ unfoldable pub some_at : Tables → ℕ → ℕ → ℕ → Bool
 some_at t kind n count =
     if kind =? PROCESS
     then any (λ v. thread_of v n and (v.suspends =? count)) t.threads
-    else (thread_at t n).suspends =? count
+    otherwise (thread_at t n).suspends =? count
 
 unfoldable pub change_in : (Thread → Thread) → ℕ → Thread → Thread
-change_in f p v = if thread_of v p then f v else v
+change_in f p v = if thread_of v p then f v otherwise v
 
 -- f at each thread concerned
 unfoldable pub change_task : (Thread → Thread) → Tables → ℕ → ℕ → Tables
 change_task f t kind n =
     if kind =? PROCESS then with_threads t (map (change_in f n) t.threads)
-    else put_thread t n (f (thread_at t n))
+    otherwise put_thread t n (f (thread_at t n))
 
 unfoldable pub suspend_task : Tables → ℕ → ℕ → Tables
 suspend_task t kind n = change_task suspend t kind n

@@ -1,7 +1,7 @@
 -- The calls on threads, their plain waits and suspend tokens, with their refusals in document 01's
 -- order.
 use Rattle.std.specs.Prelude.{ℕ, ◌%◌, ◌/◌, Bool, not, ℤ, pos}
-use Rattle.laws.specs.Choice.{◌≤?◌, ◌<?◌, ◌=?◌, ◌and◌, ◌or◌, if◌then◌else◌}
+use Rattle.laws.specs.Choice.{◌≤?◌, ◌<?◌, ◌=?◌, ◌and◌, ◌or◌, if◌then◌otherwise◌}
 use Rattle.laws.specs.Guarded.{ok, ◌>>◌, ◌>>=◌, refuse◌when◌, deny◌when◌}
 use Rattle.error.specs.Numbers.{BAD_STATE, TIMED_OUT, SHOULD_WAIT, CANCELED, STOP}
 use Rattle.record_process.specs.Process.{is_exited}
@@ -91,7 +91,7 @@ is_wait_state state = (state =? 3) or (0x203 ≤? state) and (state ≤? 0x903) 
 unfoldable pub wait_begun : Tables → ℕ → Thread → ℕ → Reply
 wait_begun t n v state =
     if v.state =? DYING then answered t STOP
-    else answered (put_thread t n (waits v state InWait)) (pos 0)
+    otherwise answered (put_thread t n (waits v state InWait)) (pos 0)
 
 -- 19: begins a plain wait
 unfoldable pub begin_wait : Tables → ℕ → ℕ → Reply
@@ -110,10 +110,10 @@ bit ready weight = ready / weight % 2 =? 1
 -- (M4)
 unfoldable pub wait_answer : Thread → ℕ → ℤ
 wait_answer v ready =
-    if bit ready 1 then pos 0 else
-    if v.state =? DYING then STOP else
-    if bit ready 2 then TIMED_OUT else
-    if bit ready 4 then CANCELED else
+    if bit ready 1 then pos 0 otherwise
+    if v.state =? DYING then STOP otherwise
+    if bit ready 2 then TIMED_OUT otherwise
+    if bit ready 4 then CANCELED otherwise
     SHOULD_WAIT
 
 abbrev pub is_pending : Thread → ℕ → Bool
@@ -122,7 +122,7 @@ is_pending v ready = (ready =? 0) and not (v.state =? DYING)
 unfoldable pub wait_polled : Tables → ℕ → Thread → ℕ → Reply
 wait_polled t n v ready =
     if is_pending v ready then answered t SHOULD_WAIT
-    else answered (put_thread t n (end_wait v)) (wait_answer v ready)
+    otherwise answered (put_thread t n (end_wait v)) (wait_answer v ready)
 
 -- 1a: polls a plain wait
 unfoldable pub poll_wait : Tables → ℕ → ℕ → Reply

@@ -10,7 +10,7 @@ use native.Mathlib.Nat.{mod-eq_of_lt}
 use mathlib.Core.Path.{◌≡◌, refl, ap, sym, ◌∙◌}
 use mathlib.Core.Bool.{Bool, true, false}
 use lib.IntN.{ℤ, pos}
-use Rattle.laws.specs.Choice.{if◌then◌else◌}
+use Rattle.laws.specs.Choice.{if◌then◌otherwise◌}
 use Rattle.job_policy.specs.declared.ActionFound.{ActionFound}
 use Rattle.job_policy.specs.declared.JobPolicy.{JobPolicy}
 use Rattle.job_policy.specs.Policy.{get_action, merge}
@@ -54,7 +54,7 @@ makes t job new e l k o i = rw (e, ← o, ← i, mod-eq_of_lt l, mod-eq_of_lt k)
 
 pub stays_as_it_is : {m : Exiting} (t : Tables) (p : ℕ) {q : Process} (c : ℤ) →
     m ≡ exiting q c false → process_at t (slot p) ≡ q → exited_in t p m ≡ answered t c
-unfolding exited_in if◌then◌else◌
+unfolding exited_in if◌then◌otherwise◌
 stays_as_it_is t p c e h = rw (e, process_kept t (slot p) h)
 
 -- an Exited process: the first code stays
@@ -68,7 +68,7 @@ exited t p code {q} e l h x =
 pub exits : {m : Exiting} (t : Tables) (p : ℕ) (code : ℤ) {q w : Process} →
     m ≡ exiting w (pos 0) true → w ≡ with_status q (Exited code) → p < 64 → process_at t (slot p) ≡ q →
     q.made ≡ true → is_exited q.status ≡ false → exited_in t p m ≡ answered (exit_process t p code) (pos 0)
-unfolding exited_in if◌then◌else◌
+unfolding exited_in if◌then◌otherwise◌
 exits t p code {q} {w} e f l h y x =
     let at : q ≡ process_at t p = sym (process_at_lem t p l h) in
     rw (e, mod-eq_of_lt l)

@@ -1,7 +1,7 @@
 -- The calls on a process, over the records that they name: what a call gives, stored where the records were, is what
 -- the model says of the call, whatever else the tables hold.
 use Rattle.std.specs.Prelude.{ℕ, ◌%◌, ◌≡◌, Bool, not, ℤ}
-use Rattle.laws.specs.Choice.{if◌then◌else◌}
+use Rattle.laws.specs.Choice.{if◌then◌otherwise◌}
 use Rattle.job_policy.specs.declared.JobPolicy.{JobPolicy}
 use Rattle.record_exception.specs.Channel.{is_bound}
 use Rattle.record_job.specs.declared.Job.{Job}
@@ -46,7 +46,7 @@ exiting q answer exits = record { answer = answer; exits = exits; process = q }
 unfoldable pub exited_in : Tables → ℕ → Exiting → Reply
 exited_in t p m =
     let u : Tables = put_process t (slot p) m.process in
-    answered (if m.exits then exit_listed kill_job u (slot p) else u) m.answer
+    answered (if m.exits then exit_listed kill_job u (slot p) otherwise u) m.answer
 
 abbrev pub Exits : (Tables → Reply) → ℕ → Process → Exiting → Type 0
 Exits f p q m = (t : Tables) → process_at t (slot p) ≡ q → exited_in t p m ≡ f t

@@ -1,6 +1,6 @@
 -- The record of a job. Follows job.rs.
 use Rattle.std.specs.Prelude.{ℕ, Bool, true, false}
-use Rattle.laws.specs.Choice.{◌=?◌, ◌and◌, if◌then◌else◌}
+use Rattle.laws.specs.Choice.{◌=?◌, ◌and◌, if◌then◌otherwise◌}
 use Rattle.job_policy.specs.Slack.{fresh_slack}
 use Rattle.job_policy.specs.declared.TimerSlack.{TimerSlack}
 use Rattle.record_exception.specs.declared.Level.{Level}
@@ -131,4 +131,4 @@ child_of v j = v.listed and is_parent v.parent j
 
 -- a made job, or none
 unfoldable pub found_job_in : Job → FoundJob
-found_job_in v = if v.made then OldJob v else NoJob
+found_job_in v = if v.made then OldJob v otherwise NoJob

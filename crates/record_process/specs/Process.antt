@@ -1,6 +1,6 @@
 -- The record of a process. Follows process.rs.
 use Rattle.std.specs.Prelude.{ℕ, Bool, true, false, not, ℤ, pos}
-use Rattle.laws.specs.Choice.{◌=?◌, ◌and◌, is_zero, minus, if◌then◌else◌}
+use Rattle.laws.specs.Choice.{◌=?◌, ◌and◌, is_zero, minus, if◌then◌otherwise◌}
 use Rattle.record_exception.specs.declared.Level.{Level}
 use Rattle.record_exception.specs.declared.Level.TheVariants.{Unbound, Shut}
 use Rattle.record_process.specs.declared.Status.{Status}
@@ -147,4 +147,4 @@ member_of q j = q.listed and (q.job =? j)
 
 -- a made process, or none
 unfoldable pub found_process_in : Process → FoundProcess
-found_process_in q = if q.made then OldProcess q else NoProcess
+found_process_in q = if q.made then OldProcess q otherwise NoProcess

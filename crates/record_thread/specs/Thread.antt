@@ -1,6 +1,6 @@
 -- The record of a thread. Follows thread.rs. States are the numbers of ThreadState.
 use Rattle.std.specs.Prelude.{ℕ, ◌+◌, ◌-◌, Bool, true, false, not}
-use Rattle.laws.specs.Choice.{◌=?◌, ◌and◌, ◌or◌, if◌then◌else◌}
+use Rattle.laws.specs.Choice.{◌=?◌, ◌and◌, ◌or◌, if◌then◌otherwise◌}
 use Rattle.record_exception.specs.declared.Level.{Level}
 use Rattle.record_exception.specs.declared.Level.TheVariants.{Unbound, Shut}
 use Rattle.record_thread.specs.declared.Waiting.{Waiting}
@@ -42,15 +42,15 @@ hides state = (state =? BLOCKED_EXCEPTION) or (state =? DYING) or (state =? DEAD
 
 unfoldable pub shown_state : Thread → ℕ
 shown_state v =
-    if v.suspends =? 0 then v.state else if hides v.state then v.state else SUSPENDED
+    if v.suspends =? 0 then v.state otherwise if hides v.state then v.state otherwise SUSPENDED
 
 -- none for New and Dying, terminated for Dead, suspended for Suspended, else running
 unfoldable pub signals_of : ℕ → Signals
 signals_of shown =
-    if shown =? NEW then NoSignal else
-    if shown =? SUSPENDED then SuspendedSignal else
-    if shown =? DYING then NoSignal else
-    if shown =? DEAD then TerminatedSignal else
+    if shown =? NEW then NoSignal otherwise
+    if shown =? SUSPENDED then SuspendedSignal otherwise
+    if shown =? DYING then NoSignal otherwise
+    if shown =? DEAD then TerminatedSignal otherwise
     RunningSignal
 
 abbrev pub signals : Thread → Signals
@@ -164,11 +164,11 @@ dying v killed =
 
 -- `stop(true)`
 unfoldable pub kill : Thread → Thread
-kill v = if v.state =? DEAD then v else dying v true
+kill v = if v.state =? DEAD then v otherwise dying v true
 
 -- `stop(false)`
 unfoldable pub exit : Thread → Thread
-exit v = if v.state =? DEAD then v else if v.state =? DYING then v else dying v v.killed
+exit v = if v.state =? DEAD then v otherwise if v.state =? DYING then v otherwise dying v v.killed
 
 -- `terminate`: Dead, off its process's list, level 2 shut
 abbrev pub finish : Thread → Thread
@@ -204,10 +204,10 @@ abbrev pub FULL : ℕ
 FULL = 65535
 
 unfoldable pub suspend : Thread → Thread
-suspend v = if v.suspends =? FULL then v else with_suspends v (v.suspends + 1)
+suspend v = if v.suspends =? FULL then v otherwise with_suspends v (v.suspends + 1)
 
 unfoldable pub resume : Thread → Thread
-resume v = if v.suspends =? 0 then v else with_suspends v (v.suspends - 1)
+resume v = if v.suspends =? 0 then v otherwise with_suspends v (v.suspends - 1)
 
 -- in a wait, in a state
 abbrev pub waits : Thread → ℕ → Waiting → Thread
@@ -226,7 +226,7 @@ waits v state waiting =
 
 -- a wait that is over: Running again, unless Dying
 unfoldable pub end_wait : Thread → Thread
-end_wait v = if v.state =? DYING then waits v DYING NotWaiting else waits v RUNNING NotWaiting
+end_wait v = if v.state =? DYING then waits v DYING NotWaiting otherwise waits v RUNNING NotWaiting
 
 abbrev pub with_level2 : Thread → Level → Thread
 with_level2 v l =
@@ -246,4 +246,4 @@ with_level2 v l =
 
 -- a made thread, or none
 unfoldable pub found_thread_in : Thread → FoundThread
-found_thread_in v = if v.made then OldThread v else NoThread
+found_thread_in v = if v.made then OldThread v otherwise NoThread

@@ -8,7 +8,7 @@ use mathlib.Core.List.{List}
 use lib.IntN.{pos}
 use lib.ListN.{get_or}
 use lib.Seq.{get_or-set_same}
-use Rattle.laws.specs.Choice.{if◌then◌else◌, ◌=?◌, ◌and◌, ◌or◌}
+use Rattle.laws.specs.Choice.{if◌then◌otherwise◌, ◌=?◌, ◌and◌, ◌or◌}
 use Rattle.laws.specs.Lists.{any}
 use Rattle.laws.proofs.Cases.{by}
 use Rattle.laws.proofs.Tables.{read_in}
@@ -84,24 +84,24 @@ module _ {t : Tables} (z : Sized t) (n : ℕ) where
 
 module _ (t : Tables) (n : ℕ) (m : Finishing) {x : Reply} (h : finished t n m ≡ x) where
   pub thread_stays : m.finishes ≡ false → answered (put_thread t (n % 128) m.thread) m.answer ≡ x
-  unfolding finished if◌then◌else◌
+  unfolding finished if◌then◌otherwise◌
   thread_stays e = (rw e) ∙ h
 
   pub thread_finishes : {u : Tables} → m.finishes ≡ true →
       u ≡ remove_thread (put_thread t (n % 128) m.thread) m.thread.process → answered u m.answer ≡ x
-  unfolding finished if◌then◌else◌
+  unfolding finished if◌then◌otherwise◌
   thread_finishes e f = (rw (e, f)) ∙ h
 
 -- ---- A process -----------------------------------------------------------------------------------------
 
 module _ (t : Tables) (p : ℕ) (m : Exiting) {x : Reply} (h : exited_in t p m ≡ x) where
   pub process_stays : m.exits ≡ false → answered (put_process t (p % 64) m.process) m.answer ≡ x
-  unfolding exited_in if◌then◌else◌
+  unfolding exited_in if◌then◌otherwise◌
   process_stays e = (rw e) ∙ h
 
   pub process_exits : {u : Tables} → m.exits ≡ true →
       u ≡ exit_listed kill_job (put_process t (p % 64) m.process) (p % 64) → answered u m.answer ≡ x
-  unfolding exited_in if◌then◌else◌
+  unfolding exited_in if◌then◌otherwise◌
   process_exits e f = (rw (e, f)) ∙ h
 
   -- its end stays with its record
@@ -121,12 +121,12 @@ module _ (t : Tables) (p : ℕ) (m : Exiting) {x : Reply} (h : exited_in t p m �
 module _ (t : Tables) (j : ℕ) (m : JobMove) {x : Reply} (h : job_moved t j m ≡ x) where
   pub job_stays : m.kills ≡ false →
       answered (put_own (put_job t (j % 32) m.job) (j % 32) m.own) m.answer ≡ x
-  unfolding job_moved if◌then◌else◌
+  unfolding job_moved if◌then◌otherwise◌
   job_stays e = (rw e) ∙ h
 
   pub job_kills : {u : Tables} → m.kills ≡ true →
       u ≡ kill_job (put_own (put_job t (j % 32) m.job) (j % 32) m.own) j → answered u m.answer ≡ x
-  unfolding job_moved if◌then◌else◌
+  unfolding job_moved if◌then◌otherwise◌
   job_kills e f = (rw (e, f)) ∙ h
 
 -- ---- An exception --------------------------------------------------------------------------------------
@@ -136,12 +136,12 @@ module _ (t : Tables) (n : ℕ) (v : Thread) (m : Raised) {x : Reply} (h : raise
   raised_tables = with_jobs (put_process (put_thread t (n % 128) m.thread) (v.process % 64) m.process) m.jobs
 
   pub raised_stays : m.exits ≡ false → reply raised_tables m.answer m.fields ≡ x
-  unfolding raised_in if◌then◌else◌
+  unfolding raised_in if◌then◌otherwise◌
   raised_stays e = (rw e) ∙ h
 
   pub raised_exits : {u : Tables} → m.exits ≡ true → u ≡ exit_listed kill_job raised_tables (v.process % 64) →
       reply u m.answer m.fields ≡ x
-  unfolding raised_in if◌then◌else◌
+  unfolding raised_in if◌then◌otherwise◌
   raised_exits e f = (rw (e, f)) ∙ h
 
 -- ---- A task, and a token -------------------------------------------------------------------------------
@@ -150,20 +150,20 @@ module _ (k : ℕ) (t : Tables) (token kind n : ℕ) (m : Token) {x : Reply} (h 
   -- the thread alone
   pub task_one : (kind =? PROCESS) and m.task.each ≡ false →
       answered (put_token (put_thread t (n % 128) m.task.thread) (token % 64) m.token) m.task.answer ≡ x
-  unfolding token_in changed if◌then◌else◌
+  unfolding token_in changed if◌then◌otherwise◌
   task_one e = (rw e) ∙ h
 
   -- each thread of a process
   pub task_each : (kind =? PROCESS) and m.task.each ≡ true → {i : ℕ} {y : Changed} → i ≡ k →
       y ≡ each_unless i n t.threads →
       answered (put_token (with_threads t y.threads) (token % 64) m.token) m.task.answer ≡ x
-  unfolding token_in changed if◌then◌else◌
+  unfolding token_in changed if◌then◌otherwise◌
   task_each e f g = (rw (g, f, e)) ∙ h
 
 -- ---- A level outside its list --------------------------------------------------------------------------
 
 bad_of_lem : (level : ℕ) → bad_level (bad_of level) ≡ true
-unfolding bad_of if◌then◌else◌ ◌or◌
+unfolding bad_of if◌then◌otherwise◌ ◌or◌
 bad_of_lem level = by (bad_level level) (λ e. rw e e) (λ e. rw e refl)
 
 pub bad_level_lem : (t : Tables) (c : ChannelCall) (level n : ℕ) →

@@ -10,7 +10,7 @@ use native.Mathlib.Omega.{arith}
 use mathlib.Core.Path.{◌≡◌, refl, ap, sym, ◌∙◌}
 use mathlib.Core.Bool.{Bool, true, false}
 use lib.Seq.{set-get_or}
-use Rattle.laws.specs.Choice.{if◌then◌else◌}
+use Rattle.laws.specs.Choice.{if◌then◌otherwise◌}
 use Rattle.job_policy.specs.declared.JobPolicy.{JobPolicy}
 use Rattle.job_policy.specs.Policy.{no_policy}
 use Rattle.record_job.specs.declared.Job.{Job}
@@ -89,8 +89,8 @@ token_looked_up t n e p = e ∙ rw (← p)
 
 -- a lookup that finds w, of a record r
 found_it : {R F : Type 0} (old : R → F) (none : F) → ((r s : R) → old r ≡ old s → r ≡ s) →
-    ((s : R) → none ≡ old s → ⊥) → (b : Bool) (r s : R) → if b then old r else none ≡ old s → r ≡ s
-unfolding if◌then◌else◌
+    ((s : R) → none ≡ old s → ⊥) → (b : Bool) (r s : R) → if b then old r otherwise none ≡ old s → r ≡ s
+unfolding if◌then◌otherwise◌
 found_it old none same never true r s e = same r s e
 found_it old none same never false r s e = absurd (never s e)
 
@@ -122,8 +122,8 @@ token_is {r = r} {s} e f =
 
 -- and its mark is set
 marked : {R F : Type 0} (old : R → F) (none : F) → ((s : R) → none ≡ old s → ⊥) → (b : Bool) (r s : R) →
-    if b then old r else none ≡ old s → b ≡ true
-unfolding if◌then◌else◌
+    if b then old r otherwise none ≡ old s → b ≡ true
+unfolding if◌then◌otherwise◌
 marked old none never true r s e = refl
 marked old none never false r s e = absurd (never s e)
 

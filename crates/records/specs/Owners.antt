@@ -1,7 +1,7 @@
 -- Names whose table depends on a number before them: the owner of a channel level (12 and 13), the
 -- task of a kind.
 use Rattle.std.specs.Prelude.{ℕ}
-use Rattle.laws.specs.Choice.{◌=?◌, ◌<?◌, if◌then◌else◌}
+use Rattle.laws.specs.Choice.{◌=?◌, ◌<?◌, if◌then◌otherwise◌}
 use Rattle.record_exception.specs.declared.Level.{Level}
 use Rattle.record_job.specs.declared.Job.{Job}
 use Rattle.record_job.specs.Job.{with_level4, with_level5}
@@ -26,13 +26,13 @@ use Rattle.records.specs.declared.owners.FoundTask.TheVariants.{NoTask, OldTask}
 
 -- how many names the owners of a level have
 unfoldable pub owners_of : ℕ → ℕ
-owners_of level = if level =? 2 then 128 else if level <? 4 then 64 else 32
+owners_of level = if level =? 2 then 128 otherwise if level <? 4 then 64 otherwise 32
 
 unfoldable pub process_level : Process → ℕ → Level
-process_level q level = if level =? 1 then q.level1 else q.level3
+process_level q level = if level =? 1 then q.level1 otherwise q.level3
 
 unfoldable pub job_level : Job → ℕ → Level
-job_level v level = if level =? 4 then v.level4 else v.level5
+job_level v level = if level =? 4 then v.level4 otherwise v.level5
 
 unfoldable pub level_of_thread : FoundThread → FoundLevel
 level_of_thread NoThread = NoLevel
@@ -49,23 +49,23 @@ level_of_job (OldJob v) level = OldLevel (job_level v level)
 -- the level of a made owner
 unfoldable pub found_level : Tables → ℕ → ℕ → FoundLevel
 found_level t level n =
-    if level =? 2 then level_of_thread (found_thread t n) else
-    if level <? 4 then level_of_process (found_process t n) level else
+    if level =? 2 then level_of_thread (found_thread t n) otherwise
+    if level <? 4 then level_of_process (found_process t n) level otherwise
     level_of_job (found_job t n) level
 
 unfoldable pub put_level : Tables → ℕ → ℕ → Level → Tables
 put_level t level n l =
-    if level =? 1 then put_process t n (with_level1 (process_at t n) l) else
-    if level =? 2 then put_thread t n (with_level2 (thread_at t n) l) else
-    if level =? 3 then put_process t n (with_level3 (process_at t n) l) else
-    if level =? 4 then put_job t n (with_level4 (job_at t n) l) else
+    if level =? 1 then put_process t n (with_level1 (process_at t n) l) otherwise
+    if level =? 2 then put_thread t n (with_level2 (thread_at t n) l) otherwise
+    if level =? 3 then put_process t n (with_level3 (process_at t n) l) otherwise
+    if level =? 4 then put_job t n (with_level4 (job_at t n) l) otherwise
     put_job t n (with_level5 (job_at t n) l)
 
 -- ---- Tasks: kind 0 is a job, 1 a process, 2 a thread -----------------------------------------
 
 -- how many names a kind has
 unfoldable pub tasks_of : ℕ → ℕ
-tasks_of kind = if kind =? 0 then 32 else if kind =? 1 then 64 else 128
+tasks_of kind = if kind =? 0 then 32 otherwise if kind =? 1 then 64 otherwise 128
 
 unfoldable pub made_job : FoundJob → FoundTask
 made_job NoJob = NoTask
@@ -81,6 +81,6 @@ made_thread (OldThread v) = OldTask
 
 unfoldable pub found_task : Tables → ℕ → ℕ → FoundTask
 found_task t kind n =
-    if kind =? 0 then made_job (found_job t n) else
-    if kind =? 1 then made_process (found_process t n) else
+    if kind =? 0 then made_job (found_job t n) otherwise
+    if kind =? 1 then made_process (found_process t n) otherwise
     made_thread (found_thread t n)

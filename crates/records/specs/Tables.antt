@@ -1,7 +1,7 @@
 -- The tables: a list of records for each kind of name. Reading past a table gives an unmade
 -- record, writing past it nothing.
 use Rattle.std.specs.Prelude.{ℕ, ◌≡◌, List, get_or, set, replicate, length}
-use Rattle.laws.specs.Choice.{if◌then◌else◌}
+use Rattle.laws.specs.Choice.{if◌then◌otherwise◌}
 use Rattle.job_policy.specs.Policy.{no_policy}
 use Rattle.job_policy.specs.declared.JobPolicy.{JobPolicy}
 use Rattle.record_job.specs.Job.{no_job, root_job}
@@ -71,17 +71,17 @@ token_at t k = get_or t.tokens k no_token
 -- ---- Looking up a name: a made record, or an absence -----------------------------------------
 
 unfoldable pub found_job : Tables → ℕ → FoundJob
-found_job t j = if (job_at t j).made then OldJob (job_at t j) else NoJob
+found_job t j = if (job_at t j).made then OldJob (job_at t j) otherwise NoJob
 
 unfoldable pub found_process : Tables → ℕ → FoundProcess
-found_process t p = if (process_at t p).made then OldProcess (process_at t p) else NoProcess
+found_process t p = if (process_at t p).made then OldProcess (process_at t p) otherwise NoProcess
 
 unfoldable pub found_thread : Tables → ℕ → FoundThread
-found_thread t n = if (thread_at t n).made then OldThread (thread_at t n) else NoThread
+found_thread t n = if (thread_at t n).made then OldThread (thread_at t n) otherwise NoThread
 
 -- a dropped token is not found
 unfoldable pub found_token : Tables → ℕ → FoundToken
-found_token t k = if (token_at t k).held then OldToken (token_at t k) else NoToken
+found_token t k = if (token_at t k).held then OldToken (token_at t k) otherwise NoToken
 
 -- ---- Writing -------------------------------------------------------------------------------
 

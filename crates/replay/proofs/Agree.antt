@@ -12,7 +12,7 @@ use native.Mathlib.Nat.{le_of_eq}
 use lib.Dec.{leb, eqb-zero-suc, eqb-suc-suc}
 use lib.ListN.{length, get_or, take, drop, length-drop, drop_of_length-le}
 use lib.Seq.{drop-cons, take_all}
-use Rattle.laws.specs.Choice.{◌<?◌, ◌=?◌, ◌and◌, if◌then◌else◌, ite}
+use Rattle.laws.specs.Choice.{◌<?◌, ◌=?◌, ◌and◌, if◌then◌otherwise◌, ite}
 use Rattle.replay.specs.declared.pack.Lines.{Lines}
 use Rattle.replay.specs.Agree.{common, begins, is_stop, capped, smaller, judged}
 use Rattle.replay.specs.Agree.{cut_off, over, passed, Event, compared, calls_end, after}
@@ -133,7 +133,7 @@ unfolding ◌and◌
 over_none l holds e = rw e
 
 pub differed : (l : Lines) → l.same ≡ false → Replays l l
-unfolding after passed if◌then◌else◌ ◌and◌
+unfolding after passed if◌then◌otherwise◌ ◌and◌
 differed l e = record { events = []; holds = false; there = true; are = rw e }
 
 pub replays : {l m r s : Lines} → Follows l m → Finishes m r → (there : Bool) × (s ≡ passed r there) → Replays l s

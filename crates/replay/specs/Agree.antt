@@ -1,6 +1,6 @@
 -- What it means that the recorded lines agree with what was written, and how a list stands after that.
 use Rattle.std.specs.Prelude.{ℕ, suc, ◌+◌, ◌*◌, ◌-◌, ◌^◌, ◌≤◌, ◌≡◌, Bool, true, false, List, [], ◌∷◌, length, get_or, take, drop}
-use Rattle.laws.specs.Choice.{◌<?◌, ◌=?◌, ◌and◌, if◌then◌else◌, ite}
+use Rattle.laws.specs.Choice.{◌<?◌, ◌=?◌, ◌and◌, if◌then◌otherwise◌, ite}
 use Rattle.std.specs.Borrow.{Bor}
 use Rattle.std.specs.declared.fs.File.{File}
 use Rattle.replay.specs.declared.pack.Lines.{Lines}
@@ -41,7 +41,7 @@ number l = get_or l 0 0 + get_or l 1 0 * 256 + get_or l 2 0 * 65536 + get_or l 3
 
 -- what a length is where so many of its four bytes came
 unfoldable pub length_of : ℕ → List ℕ → Length
-length_of got l = if got =? 0 then End else if got <? 4 then Cut else Of (number l)
+length_of got l = if got =? 0 then End otherwise if got <? 4 then Cut otherwise Of (number l)
 
 -- ---- How a list stands ---------------------------------------------------------------------
 
@@ -90,7 +90,7 @@ lines_behind file (Of n) = lines_from file n
 
 -- the lines were passed over in the file of calls, or it ends among them
 unfoldable pub passed : Lines → Bool → Lines
-passed l there = if l.same then (if there then l else cut_off l) else l
+passed l there = if l.same then (if there then l otherwise cut_off l) otherwise l
 
 -- ---- A whole list --------------------------------------------------------------------------
 

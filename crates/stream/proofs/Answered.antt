@@ -5,7 +5,7 @@ use mathlib.Core.Path.{◌≡◌, refl, ap}
 use mathlib.Core.List.{List, [], ◌∷◌, ◌++◌}
 use borrow.Author.Tests.{ne_eqb}
 use lib.ListN.{length, take, drop}
-use Rattle.laws.specs.Choice.{◌=?◌, if◌then◌else◌}
+use Rattle.laws.specs.Choice.{◌=?◌, if◌then◌otherwise◌}
 use Rattle.model.specs.Step.{Call, answers}
 use Rattle.commands.specs.declared.Next.{Next}
 use Rattle.commands.specs.declared.Next.TheVariants.{Wait, Stop, Whole}
@@ -20,8 +20,8 @@ use Rattle.stream.specs.Stream.{transcript_within, transcript, calls_of, calls_w
 use Rattle.stream.specs.Stream.{left_within, left_in, lines_from}
 
 -- where there is no command, something is left
-stop_left : (bs l : List ℕ) → next_of bs ≡ Stop → l ≡ (if length bs =? 0 then [] else l)
-unfolding next_of if◌then◌else◌
+stop_left : (bs l : List ℕ) → next_of bs ≡ Stop → l ≡ (if length bs =? 0 then [] otherwise l)
+unfolding next_of if◌then◌otherwise◌
 stop_left [] l e = let z : ◌≡◌ {A = ℕ} 0 1 = cc in absurd (omega arith)
 stop_left (b ∷ bs) l e = rw (ne_eqb (length (b ∷ bs)) 0 (λ z. omega (arith, z)))
 

@@ -17,7 +17,7 @@ use borrow.Author.Tests.{ltb-true}
 use lib.Dec.{ltb}
 use lib.ListN.{length, drop, length-append}
 use lib.Seq.{take-append-le, drop-append-le, drop-drop}
-use Rattle.laws.specs.Choice.{if◌then◌else◌}
+use Rattle.laws.specs.Choice.{if◌then◌otherwise◌}
 use Rattle.commands.specs.declared.Next.{Next}
 use Rattle.commands.specs.declared.Next.TheVariants.{Wait, Stop, Whole}
 use Rattle.commands.specs.Commands.{next_of}
@@ -51,15 +51,15 @@ stop_no_wait e = let z : ◌≡◌ {A = ℕ} 0 1 = cc in omega arith
 -- the part p of bs, and what is still to be written after it, where cs follows
 abbrev pub onward : Part → List ℕ → List ℕ → List ℕ
 onward p bs cs = p.lines ++
-    (if p.finished then [] else transcript p.state (drop p.consumed bs ++ cs))
+    (if p.finished then [] otherwise transcript p.state (drop p.consumed bs ++ cs))
 
 module _ (s : State) (bs cs : List ℕ) where
   still : transcript s (bs ++ cs) ≡ onward (part s 0 [] false) bs cs
-  unfolding if◌then◌else◌
+  unfolding if◌then◌otherwise◌
   still = refl
 
   ends : next_of bs ≡ Stop → transcript s (bs ++ cs) ≡ onward (part s 0 (stop_at s) true) bs cs
-  unfolding if◌then◌else◌
+  unfolding if◌then◌otherwise◌
   ends e = transcript_is s (bs ++ cs)
       ∙ rw (front_stays bs cs Stop e stop_no_wait) (sym (append-nil (stop_at s)))
 
@@ -67,7 +67,7 @@ module _ (s : State) (bs cs : List ℕ) where
   goes : (n : ℕ) (p : Part) → next_of bs ≡ Whole n →
       transcript (after s n bs) (drop n bs ++ cs) ≡ onward p (drop n bs) cs →
       transcript s (bs ++ cs) ≡ onward (ahead n (line s n bs) p) bs cs
-  unfolding if◌then◌else◌
+  unfolding if◌then◌otherwise◌
   goes n p e h =
       let d : drop (n + p.consumed) bs
       ≡ drop p.consumed (drop n bs) = sym (drop-drop p.consumed n bs) in
@@ -93,8 +93,8 @@ module _ (s : State) (bs cs : List ℕ) where
   by_front (Whole n) e K h = goes n (K n) e (h n e)
 
   by_room : (b : Bool) (p : Part) → transcript s (bs ++ cs) ≡ onward p bs cs →
-      transcript s (bs ++ cs) ≡ onward (if b then part s 0 [] false else p) bs cs
-  unfolding if◌then◌else◌
+      transcript s (bs ++ cs) ≡ onward (if b then part s 0 [] false otherwise p) bs cs
+  unfolding if◌then◌otherwise◌
   by_room true p h = still
   by_room false p h = h
 
@@ -136,8 +136,8 @@ halts_front room s bs Stop e K h = λ f. let z : ◌≡◌ {A = ℕ} 0 1 = cc in
 halts_front room s bs (Whole n) e K h = halts_goes room n (line s n bs) bs (K n) (h n e)
 
 halts_room : (b : Bool) (room : ℕ) (s : State) (bs : List ℕ) (p : Part) → ltb room 128 ≡ b →
-    Halts room bs p → Halts room bs (if b then part s 0 [] false else p)
-unfolding if◌then◌else◌
+    Halts room bs p → Halts room bs (if b then part s 0 [] false otherwise p)
+unfolding if◌then◌otherwise◌
 halts_room true room s bs p e h = λ _. inl (omega (arith, ltb-true room 128 e))
 halts_room false room s bs p e h = h
 
@@ -165,8 +165,8 @@ at_the_end s bs e = transcript_is s bs ∙ rw e
 
 -- ---- any sequence of reads and calls
 choice_same : (b : Bool) (x y : List ℕ) → (b ≡ false → x ≡ y) →
-    (if b then [] else x) ≡ (if b then [] else y)
-unfolding if◌then◌else◌
+    (if b then [] otherwise x) ≡ (if b then [] otherwise y)
+unfolding if◌then◌otherwise◌
 choice_same true x y h = refl
 choice_same false x y h = h refl
 

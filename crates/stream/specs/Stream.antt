@@ -1,7 +1,7 @@
 -- A whole stream of commands and what is written for it: `transcript fresh_state bs` is all that the program writes
 -- for the input bs, however it is cut into parts (document 01, Commands of the recorder).
 use Rattle.std.specs.Prelude.{ℕ, zero, suc, ◌≡◌, false, List, [], ◌∷◌, ◌++◌, length, take, drop}
-use Rattle.laws.specs.Choice.{◌=?◌, if◌then◌else◌}
+use Rattle.laws.specs.Choice.{◌=?◌, if◌then◌otherwise◌}
 use Rattle.records.specs.Tables.{fresh_tables}
 use Rattle.model.specs.Step.{Call, Shown, answers}
 use Rattle.commands.specs.declared.Next.TheVariants.{Wait}
@@ -45,7 +45,7 @@ progress s bs [] = closing s bs
 progress s bs (read cs ∷ es) = progress s (bs ++ cs) es
 progress s bs (call room ∷ es) =
     let p = fed room s bs in
-    p.lines ++ (if p.finished then [] else progress p.state (drop p.consumed bs) es)
+    p.lines ++ (if p.finished then [] otherwise progress p.state (drop p.consumed bs) es)
 
 -- reading ends only where a call has finished the stream, or no whole command is left
 abbrev pub Drained : State → List ℕ → List Event → Type 0
@@ -81,7 +81,7 @@ left_in bs = left_within (suc (length bs)) bs
 
 -- a line for each answer, numbered from the one after n; then `stop`, if anything is left
 unfoldable pub lines_from : ℕ → List Shown → List ℕ → List ℕ
-lines_from n [] left = if length left =? 0 then [] else stop_line (next_number n)
+lines_from n [] left = if length left =? 0 then [] otherwise stop_line (next_number n)
 lines_from n (x ∷ l) left =
     line_of (next_number n) x.answer x.fields x.policy ++ lines_from (next_number n) l left
 

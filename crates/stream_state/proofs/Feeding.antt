@@ -13,7 +13,7 @@ use borrow.Author.Tests.{lt-ltb, le-ltb}
 use lib.ListN.{length, take, drop, length-append, length-drop}
 use lib.Seq.{take_all, length-take-le, drop-drop}
 use lib.IntN.{ℤ}
-use Rattle.laws.specs.Choice.{if◌then◌else◌}
+use Rattle.laws.specs.Choice.{if◌then◌otherwise◌}
 use Rattle.job_policy.specs.declared.JobPolicy.{JobPolicy}
 use Rattle.reply.specs.declared.Fields.{Fields}
 use Rattle.reply.specs.declared.Reply.{Reply}
@@ -77,7 +77,7 @@ module _ (input out₀ out : List ℕ) (s₀ s : State) (at w : ℕ)
       })
 
   pub full : length out - w < 128 → Feeds (fed (length out₀) s₀ input) (came w) out
-  unfolding if◌then◌else◌
+  unfolding if◌then◌otherwise◌
   full h =
       let l : length out₀ - w < 128 = omega arith in
       ends (fed_is (length out₀ - w) s (drop at input) ∙ rw (lt-ltb (length out₀ - w) 128 l))
@@ -90,14 +90,14 @@ module _ (input out₀ out : List ℕ) (s₀ s : State) (at w : ℕ)
     front y e = ap next_of (sym rest_is) ∙ sym found ∙ e
 
     pub waits : x ≡ Wait → Feeds (fed (length out₀) s₀ input) (came w) out
-    unfolding if◌then◌else◌
+    unfolding if◌then◌otherwise◌
     waits e = ends (fed_is (length out₀ - w) s (drop at input)
         ∙ rw (le-ltb (length out₀ - w) 128 roomy, front Wait e))
 
     pub stops : x ≡ Stop → {out' : List ℕ} {r : ℕ} → Put out out' w r (stop_at s) →
         Feeds (fed (length out₀) s₀ input)
         (record { state = s; consumed = at; written = r; finished = true }) out'
-    unfolding if◌then◌else◌
+    unfolding if◌then◌otherwise◌
     stops e {out'} {r} p =
         let f : fed (length out₀ - w) s (drop at input)
         ≡ part s 0 (stop_at s) true = fed_is (length out₀ - w) s (drop at input)
@@ -119,7 +119,7 @@ module _ (input out₀ out : List ℕ) (s₀ s : State) (at w : ℕ)
         fed (length out₀) s₀ input
         ≡ ahead (at + n) (take w' out')
         (fed (length out₀ - w') (state_of r.tables (next_number s.number)) (drop (at + n) input))
-    unfolding if◌then◌else◌
+    unfolding if◌then◌otherwise◌
     goes n e r re {out'} {w'} p =
         let a : List ℕ = drop at input in
         let l : List ℕ = line_for s r in

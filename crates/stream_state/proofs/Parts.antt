@@ -8,7 +8,7 @@ use mathlib.Core.Bool.{true, false}
 use mathlib.Core.List.{List, []}
 use lib.Dec.{ltb}
 use lib.ListN.{length, drop}
-use Rattle.laws.specs.Choice.{if◌then◌else◌}
+use Rattle.laws.specs.Choice.{if◌then◌otherwise◌}
 use Rattle.commands.specs.declared.Next.{Next}
 use Rattle.commands.specs.declared.Next.TheVariants.{Wait, Stop, Whole}
 use Rattle.commands.specs.Commands.{next_of}
@@ -29,7 +29,7 @@ fed_step_same : (K L : ℕ → State → List ℕ → Part) (room : ℕ) (s : St
     ((n r : ℕ) (u : State) → next_of bs ≡ Whole n → K r u (drop n bs) ≡ L r u (drop n bs)) →
     fed_step K room s bs ≡ fed_step L room s bs
 fed_step_same K L room s bs h =
-    ap (λ (p : Part). if ltb room 128 then part s 0 [] false else p)
+    ap (λ (p : Part). if ltb room 128 then part s 0 [] false otherwise p)
     (on_same (next_of bs) (part s 0 [] false) (part s 0 (stop_at s) true)
     (λ n. ahead n (line s n bs) (K (room - length (line s n bs)) (after s n bs) (drop n bs)))
     (λ n. ahead n (line s n bs) (L (room - length (line s n bs)) (after s n bs) (drop n bs)))

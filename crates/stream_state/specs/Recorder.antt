@@ -2,7 +2,7 @@
 -- Lines are numbered from 1. What is no command, and a command that the end of the input cuts, writes
 -- the number and `stop`, and nothing follows (document 01, Commands of the recorder).
 use Rattle.std.specs.Prelude.{ℕ, zero, suc, ◌+◌, ◌-◌, ◌≡◌, Bool, true, false, List, [], ◌++◌, length, take, drop}
-use Rattle.laws.specs.Choice.{◌<?◌, if◌then◌else◌}
+use Rattle.laws.specs.Choice.{◌<?◌, if◌then◌otherwise◌}
 use Rattle.records.specs.declared.tables.Tables.{Tables}
 use Rattle.reply.specs.declared.Reply.{Reply}
 use Rattle.commands.specs.declared.Next.{Next}
@@ -52,7 +52,7 @@ ahead c l p = part p.state (c + p.consumed) (l ++ p.lines) p.finished
 -- no line is begun without room for the longest
 abbrev pub fed_step : (ℕ → State → List ℕ → Part) → ℕ → State → List ℕ → Part
 fed_step K room s bs =
-    if room <? 128 then part s 0 [] false else
+    if room <? 128 then part s 0 [] false otherwise
     on_next (next_of bs) (part s 0 [] false) (part s 0 (stop_at s) true)
     (λ n. ahead n (line s n bs) (K (room - length (line s n bs)) (after s n bs) (drop n bs)))
 

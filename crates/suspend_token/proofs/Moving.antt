@@ -12,7 +12,7 @@ use mathlib.Core.List.{List, map}
 use borrow.Author.Tests.{eqb-true, leb-true, leb-false}
 use lib.IntN.{ℤ, pos}
 use lib.ListN.{length, get_or-eq_default}
-use Rattle.laws.specs.Choice.{◌≤?◌, ◌=?◌, ◌and◌, if◌then◌else◌}
+use Rattle.laws.specs.Choice.{◌≤?◌, ◌=?◌, ◌and◌, if◌then◌otherwise◌}
 use Rattle.laws.specs.Lists.{any}
 use Rattle.laws.proofs.Cases.{by, no_both}
 use Rattle.record_job.specs.declared.Job.{Job}
@@ -43,7 +43,7 @@ use Rattle.suspend_token.specs.SuspendToken.{changed, task_in, token_in, Concern
 
 kept : (k : ℕ) (t : Tables) (kind n : ℕ) {v : Thread} (c : ℤ) →
     thread_at t (n % 128) ≡ v → changed k t kind n (task v c false) ≡ t
-unfolding changed if◌then◌else◌ ◌and◌
+unfolding changed if◌then◌otherwise◌ ◌and◌
 kept k t kind n c h = by (kind =? PROCESS) (λ a. rw a (thread_kept t (n % 128) h))
     (λ a. rw a (thread_kept t (n % 128) h))
 
@@ -63,7 +63,7 @@ token_stays k t o kind n c e h g = rw (e, kept k t kind n c g, token_kept t (o %
 module _ (t : Tables) (kind n count : ℕ) {v : Thread} {q : Process} {j : Job} {barred : Bool}
     (h : Concerned t kind n count v q j barred) (l : n < tasks_of kind) where
   pub task_found : {g : FoundTask} → g ≡ found_task_in kind v q j → g ≡ found_task t kind n
-  unfolding found_task_in found_task tasks_of if◌then◌else◌
+  unfolding found_task_in found_task tasks_of if◌then◌otherwise◌
   task_found e =
       e ∙ by (kind =? 0)
       (λ a. rw a (ap made_job (job_looked_up_at t n refl (rw a at l) h.2)))
@@ -72,7 +72,7 @@ module _ (t : Tables) (kind n count : ℕ) {v : Thread} {q : Process} {j : Job} 
       (λ b. rw (a, b) (ap made_thread (thread_looked_up_at t n refl (rw (a, b) at l) h.0))))
 
   pub some_is : {b : Bool} → kind =? 0 ≡ false → b ≡ some_in kind v barred count → b ≡ some_at t kind n count
-  unfolding some_in some_at tasks_of if◌then◌else◌
+  unfolding some_in some_at tasks_of if◌then◌otherwise◌
   some_is z e =
       e ∙ by (kind =? PROCESS)
       (λ a. rw a (sym (h.3 (eqb-true kind PROCESS a))))
@@ -81,12 +81,12 @@ module _ (t : Tables) (kind n count : ℕ) {v : Thread} {q : Process} {j : Job} 
   -- no thread of a process stands in the way
   pub unbarred : {b : Bool} → b ≡ some_in kind v barred count → b ≡ false → kind =? PROCESS ≡ true →
       any (has_count n count) t.threads ≡ false
-  unfolding some_in if◌then◌else◌
+  unfolding some_in if◌then◌otherwise◌
   unbarred e g a = h.3 (eqb-true kind PROCESS a) ∙ rw a at (sym e ∙ g)
 
   -- a name that is not a process's is a thread's, and within the table
   pub within : kind =? 0 ≡ false → kind =? PROCESS ≡ false → n < 128
-  unfolding tasks_of if◌then◌else◌
+  unfolding tasks_of if◌then◌otherwise◌
   within z a = rw (z, a) at l
 
 -- ---- The accepted calls: each thread of the process, or the one thread --------------------------------
@@ -94,27 +94,27 @@ module _ (t : Tables) (kind n count : ℕ) {v : Thread} {q : Process} {j : Job} 
 -- where no thread bars it, each is changed
 suspended_each : (n : ℕ) (l : List Thread) → any (has_count n FULL) l ≡ false →
     (each_unless SUSPEND n l).threads ≡ map (change_in suspend n) l
-unfolding bars each_in one_of change_in if◌then◌else◌
+unfolding bars each_in one_of change_in if◌then◌otherwise◌
 suspended_each n l e = changed_is SUSPEND n l e
 
 resumed_each : (n : ℕ) (l : List Thread) → any (has_count n 0) l ≡ false →
     (each_unless RESUME n l).threads ≡ map (change_in resume n) l
-unfolding bars each_in one_of change_in if◌then◌else◌
+unfolding bars each_in one_of change_in if◌then◌otherwise◌
 resumed_each n l e = changed_is RESUME n l e
 
 module _ (k : ℕ) (f : Thread → Thread) (t : Tables) (kind n : ℕ) {v : Thread} (h : thread_at t (n % 128) ≡ v)
     (l : kind =? PROCESS ≡ false → n < 128)
     (u : kind =? PROCESS ≡ true → (each_unless k n t.threads).threads ≡ map (change_in f n) t.threads) where
-  changes : {m : Task} → m ≡ (if kind =? PROCESS then task v (pos 0) true else task (f v) (pos 0) false) →
+  changes : {m : Task} → m ≡ (if kind =? PROCESS then task v (pos 0) true otherwise task (f v) (pos 0) false) →
       changed k t kind n m ≡ change_task f t kind n
-  unfolding changed change_task if◌then◌else◌ ◌and◌
+  unfolding changed change_task if◌then◌otherwise◌ ◌and◌
   changes e =
       by (kind =? PROCESS) (λ a. rw (e, a, u a))
       (λ a. rw (e, a, mod-eq_of_lt (l a), thread_at_lem t n (l a) h))
 
 answers : (f : Thread → Thread) (kind : ℕ) (v : Thread) {m : Task} →
-    m ≡ (if kind =? PROCESS then task v (pos 0) true else task (f v) (pos 0) false) → m.answer ≡ pos 0
-unfolding if◌then◌else◌
+    m ≡ (if kind =? PROCESS then task v (pos 0) true otherwise task (f v) (pos 0) false) → m.answer ≡ pos 0
+unfolding if◌then◌otherwise◌
 answers f kind v e = by (kind =? PROCESS) (λ a. rw (e, a)) (λ a. rw (e, a))
 
 module _ (t : Tables) (kind n : ℕ) {v : Thread} (h : thread_at t (n % 128) ≡ v)
@@ -155,7 +155,7 @@ module _ (t : Tables) (kind n : ℕ) {v : Thread} (h : thread_at t (n % 128) ≡
 module _ (t : Tables) (k : SuspendToken) {v : Thread} {barred : Bool} (h : thread_at t (k.name % 128) ≡ v)
     (g : k.kind ≡ PROCESS → any (has_count k.name 0) t.threads ≡ barred) where
   pub none_is : length t.threads ≡ 128 → {b : Bool} → b ≡ none_in k v barred → b ≡ some_at t k.kind k.name 0
-  unfolding none_in some_at thread_at if◌then◌else◌
+  unfolding none_in some_at thread_at if◌then◌otherwise◌
   none_is long e =
       e ∙ by (k.kind =? PROCESS)
       (λ a. rw a (sym (g (eqb-true k.kind PROCESS a))))
@@ -169,11 +169,11 @@ module _ (t : Tables) (k : SuspendToken) {v : Thread} {barred : Bool} (h : threa
 
   pub none_unbarred : none_in k v barred ≡ false → k.kind =? PROCESS ≡ true →
       any (has_count k.name 0) t.threads ≡ false
-  unfolding none_in if◌then◌else◌
+  unfolding none_in if◌then◌otherwise◌
   none_unbarred e a = g (eqb-true k.kind PROCESS a) ∙ rw a at e
 
   pub named : none_in k v barred ≡ false → k.kind =? PROCESS ≡ false → k.name < 128
-  unfolding none_in if◌then◌else◌
+  unfolding none_in if◌then◌otherwise◌
   named e a = by (128 ≤? k.name) (λ c. no_both refl (rw (a, c) at e)) (λ c. leb-false 128 k.name c)
 
 pub ruleset moving = (answering, stays, token_stays, token_looked_up_at, new_token_lem)

@@ -2,7 +2,7 @@
 -- and done to each thread of the process where asked, is what the model says of the call, whatever else the tables
 -- hold.
 use Rattle.std.specs.Prelude.{ℕ, ◌%◌, ◌≡◌, Bool, true, false, length, ℤ, pos}
-use Rattle.laws.specs.Choice.{◌≤?◌, ◌=?◌, ◌and◌, if◌then◌else◌}
+use Rattle.laws.specs.Choice.{◌≤?◌, ◌=?◌, ◌and◌, if◌then◌otherwise◌}
 use Rattle.laws.specs.Lists.{any}
 use Rattle.record_job.specs.declared.Job.{Job}
 use Rattle.record_job.specs.Job.{found_job_in}
@@ -31,26 +31,26 @@ token k m = record { task = m; token = k }
 -- a made task
 unfoldable pub found_task_in : ℕ → Thread → Process → Job → FoundTask
 found_task_in kind v q j =
-    if kind =? 0 then made_job (found_job_in j) else
-    if kind =? 1 then made_process (found_process_in q) else
+    if kind =? 0 then made_job (found_job_in j) otherwise
+    if kind =? 1 then made_process (found_process_in q) otherwise
     made_thread (found_thread_in v)
 
 -- does a thread concerned have this count? of a process's it is told
 unfoldable pub some_in : ℕ → Thread → Bool → ℕ → Bool
-some_in kind v barred count = if kind =? PROCESS then barred else v.suspends =? count
+some_in kind v barred count = if kind =? PROCESS then barred otherwise v.suspends =? count
 
 -- a thread by a name past the table has none
 unfoldable pub none_in : SuspendToken → Thread → Bool → Bool
 none_in k v barred =
-    if k.kind =? PROCESS then barred else
-    if 128 ≤? k.name then true else
+    if k.kind =? PROCESS then barred otherwise
+    if 128 ≤? k.name then true otherwise
     v.suspends =? 0
 
 unfoldable pub suspended_in : ℕ → Thread → Task
-suspended_in kind v = if kind =? PROCESS then task v (pos 0) true else task (suspend v) (pos 0) false
+suspended_in kind v = if kind =? PROCESS then task v (pos 0) true otherwise task (suspend v) (pos 0) false
 
 unfoldable pub resumed_in : ℕ → Thread → Task
-resumed_in kind v = if kind =? PROCESS then task v (pos 0) true else task (resume v) (pos 0) false
+resumed_in kind v = if kind =? PROCESS then task v (pos 0) true otherwise task (resume v) (pos 0) false
 
 -- ---- What it means for the tables; n is the task's name ------------------------------------------------
 
@@ -59,7 +59,7 @@ resumed_in kind v = if kind =? PROCESS then task v (pos 0) true else task (resum
 unfoldable pub changed : (k : ℕ) → Tables → (kind n : ℕ) → Task → Tables
 changed k t kind n m =
     if (kind =? PROCESS) and m.each then with_threads t (each_unless k n t.threads).threads
-    else put_thread t (n % 128) m.thread
+    otherwise put_thread t (n % 128) m.thread
 
 unfoldable pub task_in : (k : ℕ) → Tables → (kind n : ℕ) → Task → Reply
 task_in k t kind n m = answered (changed k t kind n m) m.answer

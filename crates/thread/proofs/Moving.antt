@@ -8,7 +8,7 @@ use native.Mathlib.Nat.{mod-eq_of_lt}
 use mathlib.Core.Path.{◌≡◌, sym, ◌∙◌}
 use mathlib.Core.Bool.{true, false}
 use lib.IntN.{ℤ, pos}
-use Rattle.laws.specs.Choice.{if◌then◌else◌}
+use Rattle.laws.specs.Choice.{if◌then◌otherwise◌}
 use Rattle.record_thread.specs.declared.Thread.{Thread}
 use Rattle.record_thread.specs.Thread.{finish}
 use Rattle.records.specs.declared.tables.Tables.{Tables}
@@ -35,13 +35,13 @@ stores t n w c e h = rw (e, mod-eq_of_lt h)
 
 pub stays_unfinished : (t : Tables) (n : ℕ) {v : Thread} (c : ℤ) →
     thread_at t (slot n) ≡ v → finished t n (finishing v c false) ≡ answered t c
-unfolding finished if◌then◌else◌
+unfolding finished if◌then◌otherwise◌
 stays_unfinished t n c h = rw (thread_kept t (slot n) h)
 
 pub finishes : {w : Thread} (t : Tables) (n : ℕ) {v : Thread} →
     n < 128 → thread_at t (slot n) ≡ v → w ≡ finish v →
     finished t n (finishing w (pos 0) true) ≡ answered (finish_thread t n) (pos 0)
-unfolding finished finish_thread if◌then◌else◌
+unfolding finished finish_thread if◌then◌otherwise◌
 finishes t n h e f = rw (f, ← e, mod-eq_of_lt h)
 
 -- a call over the tables, from the call over the record that they have

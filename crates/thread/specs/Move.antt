@@ -1,7 +1,7 @@
 -- A call on one thread, over its record alone. `Moves` says that what the call gives, stored where the record was, is
 -- what the model says of the call, whatever else the tables hold.
 use Rattle.std.specs.Prelude.{ℕ, ◌%◌, ◌≡◌, Bool, ℤ}
-use Rattle.laws.specs.Choice.{if◌then◌else◌}
+use Rattle.laws.specs.Choice.{if◌then◌otherwise◌}
 use Rattle.record_thread.specs.declared.Thread.{Thread}
 use Rattle.records.specs.declared.tables.Tables.{Tables}
 use Rattle.records.specs.Tables.{thread_at, put_thread}
@@ -40,7 +40,7 @@ finishing v answer finishes = record { answer = answer; finishes = finishes; thr
 unfoldable pub finished : Tables → ℕ → Finishing → Reply
 finished t n m =
     let u : Tables = put_thread t (slot n) m.thread in
-    answered (if m.finishes then remove_thread u m.thread.process else u) m.answer
+    answered (if m.finishes then remove_thread u m.thread.process otherwise u) m.answer
 
 abbrev pub Finishes : (Tables → Reply) → ℕ → Thread → Finishing → Type 0
 Finishes f n v m = (t : Tables) → thread_at t (slot n) ≡ v → finished t n m ≡ f t

@@ -11,7 +11,7 @@ use mathlib.Core.Bool.{Bool, true, false}
 use mathlib.Core.List.{List, [], ◌∷◌, ◌++◌, map, append-nil, append_assoc}
 use lib.ListN.{length, get_or, set, take, drop, take-append-drop, drop_of_length-le}
 use lib.Seq.{drop-cons, take_all, take-suc, take-suc-set, drop-set-lt}
-use Rattle.laws.specs.Choice.{◌and◌, ◌or◌, if◌then◌else◌, ite}
+use Rattle.laws.specs.Choice.{◌and◌, ◌or◌, if◌then◌otherwise◌, ite}
 use Rattle.laws.specs.Lists.{any}
 use Rattle.laws.proofs.Cases.{by, no_both}
 use Rattle.record_thread.specs.declared.Thread.{Thread}
@@ -37,7 +37,7 @@ or_false false = refl
 
 module _ (k p : ℕ) (v : Thread) (l : List Thread) where
   stays : thread_of v p ≡ false → each_unless k p (v ∷ l) ≡ joined (v ∷ []) false (each_unless k p l)
-  unfolding each_unless each_in ◌and◌ ◌or◌ if◌then◌else◌ ite
+  unfolding each_unless each_in ◌and◌ ◌or◌ if◌then◌otherwise◌ ite
   stays e = rw e
 
   bars_it : thread_of v p ≡ true → bars k v ≡ true → each_unless k p (v ∷ l) ≡ changed true true (v ∷ l)
@@ -46,7 +46,7 @@ module _ (k p : ℕ) (v : Thread) (l : List Thread) where
 
   changes : thread_of v p ≡ true → bars k v ≡ false →
       each_unless k p (v ∷ l) ≡ joined (one_of k v ∷ []) true (each_unless k p l)
-  unfolding each_unless each_in ◌and◌ ◌or◌ if◌then◌else◌ ite
+  unfolding each_unless each_in ◌and◌ ◌or◌ if◌then◌otherwise◌ ite
   changes e b = rw (e, b)
 
 -- ---- The loop --------------------------------------------------------------------------------------
@@ -127,9 +127,9 @@ module _ (k p : ℕ) where
       (λ h. rw h (ap (λ (b : Bool). thread_of v p or b) (some_is l (rw h at e))))
 
 pub full_bars : (n : ℕ) (l : List Thread) → any (has_count n FULL) l ≡ (each_unless SUSPEND n l).barred
-unfolding bars if◌then◌else◌
+unfolding bars if◌then◌otherwise◌
 full_bars n l = sym (barred_is SUSPEND n l)
 
 pub none_bars : (n : ℕ) (l : List Thread) → any (has_count n 0) l ≡ (each_unless RESUME n l).barred
-unfolding bars if◌then◌else◌
+unfolding bars if◌then◌otherwise◌
 none_bars n l = sym (barred_is RESUME n l)

@@ -1,6 +1,6 @@
 -- The threads that a process lists, and a change of each.
 use Rattle.std.specs.Prelude.{ℕ, Bool, true, false, List, [], ◌∷◌}
-use Rattle.laws.specs.Choice.{◌=?◌, ◌and◌, ◌or◌, if◌then◌else◌, ite}
+use Rattle.laws.specs.Choice.{◌=?◌, ◌and◌, ◌or◌, if◌then◌otherwise◌, ite}
 use Rattle.record_thread.specs.declared.Thread.{Thread}
 use Rattle.thread_lists.specs.declared.Changed.{Changed}
 use Rattle.record_thread.specs.Thread.{FULL, suspend, resume, kill, thread_of}
@@ -20,14 +20,14 @@ KILL = 3
 
 -- suspended once more, resumed once, and by any other number killed
 unfoldable pub one_of : ℕ → Thread → Thread
-one_of k v = if k =? SUSPEND then suspend v else if k =? RESUME then resume v else kill v
+one_of k v = if k =? SUSPEND then suspend v otherwise if k =? RESUME then resume v otherwise kill v
 
 unfoldable pub each_in : ℕ → ℕ → Thread → Thread
-each_in k p v = if thread_of v p then one_of k v else v
+each_in k p v = if thread_of v p then one_of k v otherwise v
 
 -- a full count bars a suspension, a count of 0 a resumption; nothing bars a kill
 unfoldable pub bars : ℕ → Thread → Bool
-bars k v = if k =? SUSPEND then v.suspends =? FULL else if k =? RESUME then v.suspends =? 0 else false
+bars k v = if k =? SUSPEND then v.suspends =? FULL otherwise if k =? RESUME then v.suspends =? 0 otherwise false
 
 abbrev pub changed : Bool → Bool → List Thread → Changed
 changed barred some threads = record { barred = barred; some = some; threads = threads }

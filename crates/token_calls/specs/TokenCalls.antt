@@ -1,6 +1,6 @@
 -- What a call on a task gave, stored, where the threads after a change of each are at hand.
 use Rattle.std.specs.Prelude.{ℕ, ◌%◌, Bool, List}
-use Rattle.laws.specs.Choice.{◌=?◌, ◌and◌, if◌then◌else◌}
+use Rattle.laws.specs.Choice.{◌=?◌, ◌and◌, if◌then◌otherwise◌}
 use Rattle.record_thread.specs.declared.Thread.{Thread}
 use Rattle.records.specs.declared.tables.Tables.{Tables}
 use Rattle.records.specs.Tables.{put_thread, put_token, with_threads}
@@ -16,7 +16,7 @@ of_each kind m = (kind =? PROCESS) and m.each
 -- of a process these threads, where each is to be changed; else the one thread
 unfoldable pub changed_to : Tables → (kind n : ℕ) → List Thread → Task → Tables
 changed_to t kind n threads m =
-    if of_each kind m then with_threads t threads else put_thread t (n % 128) m.thread
+    if of_each kind m then with_threads t threads otherwise put_thread t (n % 128) m.thread
 
 unfoldable pub task_to : Tables → (kind n : ℕ) → List Thread → Task → Reply
 task_to t kind n threads m = answered (changed_to t kind n threads m) m.answer

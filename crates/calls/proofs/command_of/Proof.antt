@@ -5,7 +5,7 @@ use lib.IntN.{ℤ}
 use mir.Syntax.{w64}
 use mir.Val.{SFits}
 use mir.Facts.{to_z-of_z}
-use Rattle.laws.specs.Choice.{if◌then◌else◌}
+use Rattle.laws.specs.Choice.{if◌then◌otherwise◌}
 use Rattle.commands.specs.Commands.{byte}
 use Rattle.model.specs.Step.{cmd05, cmd07, cmd0d, cmd14, cmd16, cmd17, cmd19}
 use Rattle.calls.specs.Calls.{Called, called, call_by, call_at}
@@ -34,7 +34,7 @@ by_code k d x m h =
     d.byte_at.ensures m
 
 pub command_of_spec : {M : Type 1} → statement M
-unfolding call_by call_of level_call thread_call pair_call process_call job_call exception_call task_call show_call if◌then◌else◌
+unfolding call_by call_of level_call thread_call pair_call process_call job_call exception_call task_call show_call if◌then◌otherwise◌
 command_of_spec =
     tie.close
     (tie.spec

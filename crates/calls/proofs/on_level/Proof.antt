@@ -1,4 +1,4 @@
-use Rattle.laws.specs.Choice.{if◌then◌else◌}
+use Rattle.laws.specs.Choice.{if◌then◌otherwise◌}
 use Rattle.exceptionate.specs.Exceptionate.{of_process, of_job}
 use Rattle.calls.specs.Groups.{thread_call, process_call, job_call, call_of}
 use Rattle.calls.proofs.Calling.{bad_is}
@@ -6,7 +6,7 @@ use Rattle.calls.proofs.on_level.Statement.{statement}
 use Rattle.calls.proofs.on_level.Tie as tie
 
 pub on_level_spec : {M : Type 1} → statement M
-unfolding call_of thread_call process_call job_call of_process of_job if◌then◌else◌
+unfolding call_of thread_call process_call job_call of_process of_job if◌then◌otherwise◌
 on_level_spec =
     tie.close
     (tie.spec

@@ -1,4 +1,4 @@
-use Rattle.laws.specs.Choice.{if◌then◌else◌}
+use Rattle.laws.specs.Choice.{if◌then◌otherwise◌}
 use Rattle.laws.proofs.Flow.{told}
 use Rattle.cascade.specs.Ends.{ends_here}
 use borrow.Author.Rules.{rules}
@@ -7,7 +7,7 @@ use Rattle.cascade.proofs.ends_here.Statement.{statement}
 use Rattle.cascade.proofs.ends_here.Tie as tie
 
 pub ends_here_spec : {M : Type 1} → statement M
-unfolding ends_here if◌then◌else◌
+unfolding ends_here if◌then◌otherwise◌
 ends_here_spec =
     tie.close
     (tie.spec

@@ -1,5 +1,5 @@
 use mathlib.Core.Path.{ap}
-use Rattle.laws.specs.Choice.{if◌then◌else◌}
+use Rattle.laws.specs.Choice.{if◌then◌otherwise◌}
 use Rattle.thread_lists.specs.Each.{one_of, each_in}
 use Rattle.records.specs.Tables.{with_threads}
 use Rattle.model.specs.Job.{stop_in, stop_threads}
@@ -8,7 +8,7 @@ use Rattle.cascade.proofs.stop_threads.Statement.{statement}
 use Rattle.cascade.proofs.stop_threads.Tie as tie
 
 pub stop_threads_spec : {M : Type 1} → statement M
-unfolding stop_threads stop_in one_of each_in if◌then◌else◌
+unfolding stop_threads stop_in one_of each_in if◌then◌otherwise◌
 stop_threads_spec =
     tie.close
     (tie.spec

@@ -3,7 +3,7 @@
 use Prim.Native.Nat.{ℕ}
 use native.Mathlib.Omega.{arith}
 use mathlib.Core.Path.{◌≡◌, refl, sym, ap, subst}
-use Rattle.laws.specs.Choice.{◌=?◌, ◌and◌, if◌then◌else◌}
+use Rattle.laws.specs.Choice.{◌=?◌, ◌and◌, if◌then◌otherwise◌}
 use Rattle.laws.specs.Guarded.{found}
 use Rattle.laws.proofs.Cases.{if_on}
 use Rattle.record_exception.specs.declared.Level.{Level}
@@ -138,7 +138,7 @@ module _ (Q : Place → Type 0) (n : ℕ) (t : Tables) (K : WaitsAt Q n t) where
   -- f at each thread of a task
   task_at : (f : Thread → Thread) → ((v : Thread) → At Q v.waiting → At Q (f v).waiting)
       → (kind i : ℕ) → WaitsAt Q n (change_task f t kind i)
-  unfolding change_task change_in thread_of ◌and◌ if◌then◌else◌
+  unfolding change_task change_in thread_of ◌and◌ if◌then◌otherwise◌
   task_at f h kind i =
       if_on (WaitsAt Q n) (kind =? PROCESS) _ _
       (λ e. record {

@@ -7,7 +7,7 @@ use Prim.Native.Nat.{ℕ, ◌<◌}
 use mathlib.Core.Path.{◌≡◌, refl, sym, ap, ◌∙◌}
 use mathlib.Core.Bool.{Bool, true, false}
 use lib.IntN.{ℤ}
-use Rattle.laws.specs.Choice.{◌=?◌, ◌and◌, if◌then◌else◌}
+use Rattle.laws.specs.Choice.{◌=?◌, ◌and◌, if◌then◌otherwise◌}
 use Rattle.laws.proofs.Cases.{if_on}
 use Rattle.record_exception.specs.declared.Level.{Level}
 use Rattle.record_exception.specs.declared.Exception.{Exception}
@@ -83,7 +83,7 @@ resume_key v = if_on (λ (w : Thread). thread_key w ≡ thread_key v) _ _ _ (λ 
 pub quiet_task : (t : Tables) (f : Thread → Thread)
     → ((v : Thread) → thread_key (f v) ≡ thread_key v)
     → (kind n : ℕ) → Quiet t (change_task f t kind n)
-unfolding change_task change_in thread_of ◌and◌ if◌then◌else◌
+unfolding change_task change_in thread_of ◌and◌ if◌then◌otherwise◌
 quiet_task t f e kind n =
     if_on (Quiet t) (kind =? PROCESS) _ _
     (λ h. quiet_map t (change_in f n) refl

@@ -3,7 +3,7 @@
 use Prim.Native.Nat.{ℕ, zero, suc}
 use mathlib.Core.Path.{◌≡◌, refl, ap, ap₂, ◌∙◌, subst}
 use mathlib.Core.Bool.{Bool, true, false}
-use Rattle.laws.specs.Choice.{◌=?◌, if◌then◌else◌}
+use Rattle.laws.specs.Choice.{◌=?◌, if◌then◌otherwise◌}
 use Rattle.laws.proofs.Cases.{no_both, if_on, if_two, ite_two}
 use Rattle.job_policy.specs.Policy.{merge}
 use Rattle.record_job.specs.Job.{new_job}
@@ -116,7 +116,7 @@ module _ {x y : Trip} {s t : Tables} (r : Agree x y s t) where
         let a : Agree x y u w = thread_two r n (λ (v : Thread). finish v)
         (λ v f. fits_finish v f) in
         subst (λ (v : Thread). Agree x y (finish_thread s n)
-        (if lists_thread w v.process then w else end_process w v.process))
+        (if lists_thread w v.process then w otherwise end_process w v.process))
         ((r.threads n).same h)
         (if_two (Agree x y) (lists_thread u p) (lists_thread w p) _ _ _ _ (lists_same a p k)
         (λ d e. a)

@@ -4,7 +4,7 @@ use Prim.Native.Nat.{ℕ}
 use mathlib.Core.Path.{◌≡◌, refl, sym, ap, ◌∙◌, subst}
 use mathlib.Core.Bool.{Bool, true, false}
 use borrow.Author.Tests.{eqb-true}
-use Rattle.laws.specs.Choice.{◌≤?◌, ◌=?◌, ◌or◌, if◌then◌else◌}
+use Rattle.laws.specs.Choice.{◌≤?◌, ◌=?◌, ◌or◌, if◌then◌otherwise◌}
 use Rattle.laws.specs.Guarded.{found}
 use Rattle.laws.proofs.Cases.{by, no_both}
 use Rattle.laws.proofs.Flow.{first, second}
@@ -35,24 +35,24 @@ in_table false own e h = e
 module _ {x y : Trip} {s t : Tables} (r : Agree x y s t) where
   pub job_same : (j : ℕ) → y.jobs j ≡ true → job s j ≡ job t j
   unfolding found_job
-  job_same j h = ap (λ (v : Job). old_job (if v.made then OldJob v else NoJob)) ((r.jobs j).same h)
+  job_same j h = ap (λ (v : Job). old_job (if v.made then OldJob v otherwise NoJob)) ((r.jobs j).same h)
 
   pub process_same : (p : ℕ) → x.processes p ≡ false → process s p ≡ process t p
   unfolding found_process
   process_same p h =
-      ap (λ (v : Process). old_process (if v.made then OldProcess v else NoProcess))
+      ap (λ (v : Process). old_process (if v.made then OldProcess v otherwise NoProcess))
       ((r.processes p).same h)
 
   pub thread_same : (n : ℕ) → x.threads n ≡ false → thread s n ≡ thread t n
   unfolding found_thread
   thread_same n h =
-      ap (λ (v : Thread). old_thread (if v.made then OldThread v else NoThread))
+      ap (λ (v : Thread). old_thread (if v.made then OldThread v otherwise NoThread))
       ((r.threads n).same h)
 
   pub token_same : (k : ℕ) → x.tokens k ≡ false → token s k ≡ token t k
   unfolding found_token
   token_same k h =
-      ap (λ (v : SuspendToken). old_token (if v.held then OldToken v else NoToken))
+      ap (λ (v : SuspendToken). old_token (if v.held then OldToken v otherwise NoToken))
       ((r.tokens k).same h)
 
   -- ---- A record that was found ----------------------------------------------------------------

@@ -3,7 +3,7 @@
 use Prim.Native.Nat.{ℕ}
 use mathlib.Core.Path.{◌≡◌, refl, sym, ap, ◌∙◌, subst}
 use mathlib.Core.Bool.{Bool, true, false}
-use Rattle.laws.specs.Choice.{◌≤?◌, ◌<?◌, ◌=?◌, ◌and◌, ◌or◌, if◌then◌else◌}
+use Rattle.laws.specs.Choice.{◌≤?◌, ◌<?◌, ◌=?◌, ◌and◌, ◌or◌, if◌then◌otherwise◌}
 use Rattle.laws.proofs.Cases.{no_both, if_on, if_two}
 use Rattle.laws.proofs.Counts.{any_same}
 use Rattle.record_exception.specs.declared.Level.{Level}
@@ -39,7 +39,7 @@ use Rattle.claims.proofs.Separation.Lookups.{in_table, IsTask, is_process, is_th
 
 pub own_task : {x : Trip} {n kind : ℕ} → OwnTask x n kind → 2 <? kind ≡ false →
     tasks_of kind ≤? n ≡ false → kind =? 0 ≡ false → IsTask kind × (task_of x kind n ≡ true)
-unfolding tasks_of if◌then◌else◌ ◌or◌
+unfolding tasks_of if◌then◌otherwise◌ ◌or◌
 own_task (a_job o) b p z = no_both refl z
 own_task {x = x} {n = n} (a_process o) b p z = (refl, in_table (64 ≤? n) (x.processes n) o p)
 own_task {x = x} {n = n} (a_thread o) b p z = (refl, in_table (128 ≤? n) (x.threads n) o p)
@@ -48,15 +48,15 @@ own_task (no_kind e) b p z = no_both e b
 module _ {x y : Trip} {s t : Tables} (r : Agree x y s t) where
   pub task_same : {n kind : ℕ} → OwnTask y n kind → 2 <? kind ≡ false → tasks_of kind ≤? n ≡ false →
       found_task s kind n ≡ found_task t kind n
-  unfolding tasks_of found_task found_job found_process found_thread if◌then◌else◌
+  unfolding tasks_of found_task found_job found_process found_thread if◌then◌otherwise◌
   task_same {n = n} (a_job o) b p =
-      ap (λ (v : Job). made_job (if v.made then OldJob v else NoJob))
+      ap (λ (v : Job). made_job (if v.made then OldJob v otherwise NoJob))
       ((r.jobs n).same (in_table (32 ≤? n) (y.jobs n) o p))
   task_same {n = n} (a_process o) b p =
-      ap (λ (v : Process). made_process (if v.made then OldProcess v else NoProcess))
+      ap (λ (v : Process). made_process (if v.made then OldProcess v otherwise NoProcess))
       ((r.processes n).same (r.apart.processes n (in_table (64 ≤? n) (y.processes n) o p)))
   task_same {n = n} (a_thread o) b p =
-      ap (λ (v : Thread). made_thread (if v.made then OldThread v else NoThread))
+      ap (λ (v : Thread). made_thread (if v.made then OldThread v otherwise NoThread))
       ((r.threads n).same (r.apart.threads n (in_table (128 ≤? n) (y.threads n) o p)))
   task_same (no_kind e) b p = no_both e b
 
@@ -92,7 +92,7 @@ module _ {x y : Trip} {s t : Tables} (r : Agree x y s t) where
 module _ {x y : Trip} {s t : Tables} (r : Agree x y s t) where
   pub put_level_one : {n level : ℕ} → OwnOwner x n level → bad_level level ≡ false →
       owners_of level ≤? n ≡ false → (l : Level) → Agree x y (put_level s level n l) t
-  unfolding owners_of put_level if◌then◌else◌
+  unfolding owners_of put_level if◌then◌otherwise◌
   put_level_one {n = n} (level1 o) b p l =
       process_one r n (in_table (64 ≤? n) (x.processes n) o p) _
       (fits_level1 (process_at s n) (r.processes n).fits₁ l)
@@ -122,7 +122,7 @@ module _ {x y : Trip} {s t : Tables} (r : Agree x y s t) where
   pub put_level_two : {n level : ℕ} → OwnOwner y n level → bad_level level ≡ false →
       owners_of level ≤? n ≡ false → (l : Level) →
       Agree x y (put_level s level n l) (put_level t level n l)
-  unfolding owners_of put_level if◌then◌else◌
+  unfolding owners_of put_level if◌then◌otherwise◌
   put_level_two {n = n} (level1 o) b p l =
       process_two r n (λ (q : Process). with_level1 q l) (λ q f. fits_level1 q f l)
   put_level_two {n = n} (level2 o) b p l =
@@ -139,20 +139,20 @@ module _ {x y : Trip} {s t : Tables} (r : Agree x y s t) where
 
   pub level_same : {n level : ℕ} → OwnOwner y n level → bad_level level ≡ false →
       owners_of level ≤? n ≡ false → found_level s level n ≡ found_level t level n
-  unfolding owners_of found_level found_job found_process found_thread if◌then◌else◌
+  unfolding owners_of found_level found_job found_process found_thread if◌then◌otherwise◌
   level_same {n = n} (level1 o) b p =
-      ap (λ (v : Process). level_of_process (if v.made then OldProcess v else NoProcess) 1)
+      ap (λ (v : Process). level_of_process (if v.made then OldProcess v otherwise NoProcess) 1)
       ((r.processes n).same (r.apart.processes n (in_table (64 ≤? n) (y.processes n) o p)))
   level_same {n = n} (level2 o) b p =
-      ap (λ (v : Thread). level_of_thread (if v.made then OldThread v else NoThread))
+      ap (λ (v : Thread). level_of_thread (if v.made then OldThread v otherwise NoThread))
       ((r.threads n).same (r.apart.threads n (in_table (128 ≤? n) (y.threads n) o p)))
   level_same {n = n} (level3 o) b p =
-      ap (λ (v : Process). level_of_process (if v.made then OldProcess v else NoProcess) 3)
+      ap (λ (v : Process). level_of_process (if v.made then OldProcess v otherwise NoProcess) 3)
       ((r.processes n).same (r.apart.processes n (in_table (64 ≤? n) (y.processes n) o p)))
   level_same {n = n} (level4 o) b p =
-      ap (λ (v : Job). level_of_job (if v.made then OldJob v else NoJob) 4)
+      ap (λ (v : Job). level_of_job (if v.made then OldJob v otherwise NoJob) 4)
       ((r.jobs n).same (in_table (32 ≤? n) (y.jobs n) o p))
   level_same {n = n} (level5 o) b p =
-      ap (λ (v : Job). level_of_job (if v.made then OldJob v else NoJob) 5)
+      ap (λ (v : Job). level_of_job (if v.made then OldJob v otherwise NoJob) 5)
       ((r.jobs n).same (in_table (32 ≤? n) (y.jobs n) o p))
   level_same (no_level e) b p = no_both e b

@@ -23,7 +23,7 @@ use Rattle.reply.specs.declared.Fields.TheVariants.{NoFields, OwnerField, JobFie
 use Rattle.reply.specs.declared.Fields.TheVariants.{ProcessFields, ThreadFields}
 use Rattle.job_policy.specs.Policy.{get_action, apply, merged_action, merge}
 use Rattle.job_policy.specs.Slack.{larger, generate_new}
-use Rattle.laws.specs.Choice.{◌and◌, ◌or◌, if◌then◌else◌, ite, ◌=?◌}
+use Rattle.laws.specs.Choice.{◌and◌, ◌or◌, if◌then◌otherwise◌, ite, ◌=?◌}
 use Rattle.laws.specs.Guarded.{settle}
 use Rattle.laws.specs.Lists.{any, zip}
 use Rattle.model.specs.Exception.{is_hardware, route_of, owner_of, level_at, put_level_at}
@@ -148,7 +148,7 @@ record Made : Type 0 where
   pub without_x : first_killed (answers state (of_second calls)) ≡ false
 
 made : Made
-unfolding Run get_action apply merged_action merge larger generate_new ◌and◌ ◌or◌ if◌then◌else◌ ite settle any zip
+unfolding Run get_action apply merged_action merge larger generate_new ◌and◌ ◌or◌ if◌then◌otherwise◌ ite settle any zip
     is_hardware route_of owner_of level_at put_level_at pass_over try_at search_up from_jobs from_second_chance from_process
     from_thread from_debugger first_handler next_handler unhandled deliver raise_exiting raise close bind_level
     hang_up_level raise_exception close_exception set_state set_strategy get_process_handle lists_child lists_process
@@ -217,7 +217,7 @@ needed f = no_both made.with_x
     (ap first_killed (f before x y apart is_x is_y calls) ∙ made.without_x)
 
 pub separation_rows : SeparationRows
-unfolding Run get_action apply merged_action merge larger generate_new ◌and◌ ◌or◌ if◌then◌else◌ ite settle any zip
+unfolding Run get_action apply merged_action merge larger generate_new ◌and◌ ◌or◌ if◌then◌otherwise◌ ite settle any zip
     is_hardware route_of owner_of level_at put_level_at pass_over try_at search_up from_jobs from_second_chance from_process
     from_thread from_debugger first_handler next_handler unhandled deliver raise_exiting raise close bind_level
     hang_up_level raise_exception close_exception set_state set_strategy get_process_handle lists_child lists_process

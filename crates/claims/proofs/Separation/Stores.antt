@@ -6,7 +6,7 @@ use mathlib.Core.Bool.{true, false}
 use mathlib.Core.List.{map}
 use lib.IntN.{ℤ}
 use borrow.Author.Tests.{eqb-true}
-use Rattle.laws.specs.Choice.{◌=?◌, ◌and◌, if◌then◌else◌}
+use Rattle.laws.specs.Choice.{◌=?◌, ◌and◌, if◌then◌otherwise◌}
 use Rattle.laws.proofs.Cases.{no_both, if_on, and_left, and_right}
 use Rattle.record_exception.specs.declared.Level.{Level}
 use Rattle.record_exception.specs.declared.Level.TheVariants.{Unbound, Bound, HungUp, Shut}
@@ -45,7 +45,7 @@ unfolding thread_of
 thread_of_process v p h = eqb-true v.process p (and_right v.listed (v.process =? p) h)
 
 change_in_none : (f : Thread → Thread) (p : ℕ) → change_in f p no_thread ≡ no_thread
-unfolding change_in thread_of ◌and◌ if◌then◌else◌
+unfolding change_in thread_of ◌and◌ if◌then◌otherwise◌
 change_in_none f p = refl
 
 -- what is tried is as open as before

@@ -3,7 +3,7 @@
 use Prim.Native.Nat.{ℕ, zero, suc}
 use mathlib.Core.Path.{◌≡◌, refl, sym, ◌∙◌, subst}
 use mathlib.Core.Bool.{Bool, true, false}
-use Rattle.laws.specs.Choice.{if◌then◌else◌, ite}
+use Rattle.laws.specs.Choice.{if◌then◌otherwise◌, ite}
 use Rattle.laws.proofs.Cases.{by, ite_on, ite_two}
 use Rattle.record_job.specs.declared.Parent.{Parent}
 use Rattle.record_job.specs.declared.Parent.TheVariants.{Orphan, ChildOf}
@@ -37,8 +37,8 @@ on_parent_two {A = A} R p q a b k l e =
     same Orphan f g = f refl refl
     same (ChildOf d) f g = g d refl refl
 
-if_ite : {A : Type 0} (b : Bool) (u v : A) → ite b (λ _. u) (λ _. v) ≡ (if b then u else v)
-unfolding ite if◌then◌else◌
+if_ite : {A : Type 0} (b : Bool) (u v : A) → ite b (λ _. u) (λ _. v) ≡ (if b then u otherwise v)
+unfolding ite if◌then◌otherwise◌
 if_ite true u v = refl
 if_ite false u v = refl
 
@@ -88,7 +88,7 @@ module _ {x y : Trip} where
       let u : Tables = put_process s p (ended (process_at s p)) in
       let w : Tables = put_process t p (ended (process_at t p)) in
       let j : ℕ = (process_at s p).job in
-      let up : Tables → ℕ → Tables = λ z i. if may_terminate z i then terminate_up 32 z i else z in
+      let up : Tables → ℕ → Tables = λ z i. if may_terminate z i then terminate_up 32 z i otherwise z in
       subst (λ (q : Process). Agree x y (up u j) (up w q.job)) ((r.processes p).same h)
       (subst (λ (z : Tables). Agree x y z (up w j))
       (if_ite (may_terminate u j) (terminate_up 32 u j) u)

@@ -8,7 +8,7 @@ use mathlib.Core.Bool.{Bool, true, false}
 use mathlib.Core.List.{List, [], ◌∷◌}
 use lib.ListN.{length, get_or, set}
 use borrow.Author.Tests.{eqb-true, eqb-false, ne_eqb, eq-eqb}
-use Rattle.laws.specs.Choice.{◌=?◌, ◌and◌, if◌then◌else◌}
+use Rattle.laws.specs.Choice.{◌=?◌, ◌and◌, if◌then◌otherwise◌}
 use Rattle.laws.proofs.Cases.{by, no_both}
 use Rattle.record_job.specs.declared.Parent.TheVariants.{ChildOf}
 use Rattle.record_job.specs.declared.Job.{Job}
@@ -32,7 +32,7 @@ use Rattle.claims.proofs.Sound.Settle.{may_by}
 module _ {A : Type 0} (f : A → Bool) (d : A) where
   pub count_new : (l : List A) (i : ℕ) (v : A) → i < length l → f (get_or l i d) ≡ false
       → f v ≡ true → count f (set l i v) ≡ suc (count f l)
-  unfolding count if◌then◌else◌
+  unfolding count if◌then◌otherwise◌
   count_new [] i v h a b = absurd (omega arith)
   count_new (x ∷ l) zero v h a b = rw (a, b) (omega arith)
   count_new (x ∷ l) (suc i) v h a b = omega (arith, count_new l i v (omega arith) a b)
@@ -47,7 +47,7 @@ module _ {A : Type 0} (f : A → Bool) (d : A) where
       rw (h 0) (omega (arith, count_same l m (omega arith) (λ i. h (suc i))))
 
   pub count_le : (l : List A) → count f l ≤ length l
-  unfolding count if◌then◌else◌
+  unfolding count if◌then◌otherwise◌
   count_le [] = le_refl 0
   count_le (x ∷ l) =
       by (f x) (λ e. rw e (omega (arith, count_le l))) (λ e. rw e (omega (arith, count_le l)))
@@ -82,14 +82,14 @@ module _ (t : Tables) (S : Sound t) (j new : ℕ) (m : (job_at t j).made ≡ tru
   at_old i d = put_job_else t new i (new_job j) d
 
   new_rank : ℕ → ℕ
-  new_rank i = if i =? new then made_jobs t else S.rank i
+  new_rank i = if i =? new then made_jobs t otherwise S.rank i
 
   rank_new : (i : ℕ) → i ≡ new → new_rank i ≡ made_jobs t
-  unfolding new_rank if◌then◌else◌
+  unfolding new_rank if◌then◌otherwise◌
   rank_new i e = rw (eq-eqb i new e)
 
   rank_old : (i : ℕ) → (i ≡ new → ⊥) → new_rank i ≡ S.rank i
-  unfolding new_rank if◌then◌else◌
+  unfolding new_rank if◌then◌otherwise◌
   rank_old i d = rw (ne_eqb i new d)
 
   one_more : made_jobs u ≡ suc (made_jobs t)

@@ -5,7 +5,7 @@ use mathlib.Core.Path.{◌≡◌, refl, ap, ◌∙◌, subst}
 use mathlib.Core.Bool.{true, false}
 use lib.IntN.{ℤ}
 use borrow.Author.Tests.{eq-eqb}
-use Rattle.laws.specs.Choice.{◌and◌, if◌then◌else◌}
+use Rattle.laws.specs.Choice.{◌and◌, if◌then◌otherwise◌}
 use Rattle.laws.proofs.Cases.{by, no_both, if_on, and_true}
 use Rattle.record_job.specs.declared.Parent.{Parent}
 use Rattle.record_job.specs.declared.Parent.TheVariants.{ChildOf}
@@ -103,7 +103,7 @@ module _ (t : Tables) (T : Tree t) where
       (λ n l h. absurd (unlisted_thread T p n e l h))
 
   pub stops_tree : (p : ℕ) → Tree (stop_threads t p)
-  unfolding stop_threads stop_in thread_of ◌and◌ if◌then◌else◌
+  unfolding stop_threads stop_in thread_of ◌and◌ if◌then◌otherwise◌
   stops_tree p =
       map_threads_tree t T (stop_in p) refl
       (λ v g. if_on (GoodThread t) (thread_of v p) _ _

@@ -4,7 +4,7 @@ use native.Mathlib.Omega.{arith}
 use mathlib.Core.Path.{◌≡◌, refl, sym, ap, ◌∙◌, subst}
 use mathlib.Core.Bool.{Bool, true, false}
 use borrow.Author.Tests.{not-false, eqb-true, ltb-false, eqb-false}
-use Rattle.laws.specs.Choice.{◌=?◌, ◌or◌, if◌then◌else◌}
+use Rattle.laws.specs.Choice.{◌=?◌, ◌or◌, if◌then◌otherwise◌}
 use Rattle.laws.specs.Guarded.{found}
 use Rattle.laws.proofs.Cases.{by, no_both, ok_on, guard_on, find_on}
 use Rattle.record_exception.specs.declared.Level.{Level}
@@ -59,7 +59,7 @@ module _ {t : Tables} (T : Tree t) (n : ℕ) (l new : Level) (a : is_shut l ≡ 
   open_level old e = b ∙ sym (ap (λ (x : Level). is_shut x) e ∙ a)
 
   level1_tree : channel t 1 n ≡ found l → Tree (put_level t 1 n new)
-  unfolding found_level process_level put_level if◌then◌else◌
+  unfolding found_level process_level put_level if◌then◌otherwise◌
   level1_tree h =
       let f = process_level_is t n 1 l h in
       levels_process t T n _ refl (level1_good (good_process T n) new
@@ -67,7 +67,7 @@ module _ {t : Tables} (T : Tree t) (n : ℕ) (l new : Level) (a : is_shut l ≡ 
       (open_level (process_at t n).level1 f.1))
 
   level2_tree : channel t 2 n ≡ found l → Tree (put_level t 2 n new)
-  unfolding found_level put_level if◌then◌else◌
+  unfolding found_level put_level if◌then◌otherwise◌
   level2_tree h =
       let f = thread_level_is t n l h in
       levels_thread t T n _ refl (level2_good (good_thread T n) new
@@ -75,7 +75,7 @@ module _ {t : Tables} (T : Tree t) (n : ℕ) (l new : Level) (a : is_shut l ≡ 
       (open_level (thread_at t n).level2 f.1))
 
   level3_tree : channel t 3 n ≡ found l → Tree (put_level t 3 n new)
-  unfolding found_level process_level put_level if◌then◌else◌
+  unfolding found_level process_level put_level if◌then◌otherwise◌
   level3_tree h =
       let f = process_level_is t n 3 l h in
       levels_process t T n _ refl (level3_good (good_process T n) new
@@ -83,7 +83,7 @@ module _ {t : Tables} (T : Tree t) (n : ℕ) (l new : Level) (a : is_shut l ≡ 
       (open_level (process_at t n).level3 f.1))
 
   level4_tree : channel t 4 n ≡ found l → Tree (put_level t 4 n new)
-  unfolding found_level job_level put_level if◌then◌else◌
+  unfolding found_level job_level put_level if◌then◌otherwise◌
   level4_tree h =
       let f = job_level_is t n 4 l h in
       levels_job t T n _ refl (level4_good (good_job T n) new
@@ -91,7 +91,7 @@ module _ {t : Tables} (T : Tree t) (n : ℕ) (l new : Level) (a : is_shut l ≡ 
       (open_level (job_at t n).level4 f.1))
 
   level5_tree : channel t 5 n ≡ found l → Tree (put_level t 5 n new)
-  unfolding found_level job_level put_level if◌then◌else◌
+  unfolding found_level job_level put_level if◌then◌otherwise◌
   level5_tree h =
       let f = job_level_is t n 5 l h in
       levels_job t T n _ refl (level5_good (good_job T n) new

@@ -5,7 +5,7 @@ use mathlib.Core.Path.{◌≡◌, refl, sym, ap, ◌∙◌, subst}
 use mathlib.Core.Bool.{true, false}
 use mathlib.Core.List.{map}
 use borrow.Author.Tests.{not-false, eqb-true, ltb-false, eqb-false, eq-eqb}
-use Rattle.laws.specs.Choice.{◌=?◌, ◌<?◌, ◌and◌, ◌or◌, if◌then◌else◌}
+use Rattle.laws.specs.Choice.{◌=?◌, ◌<?◌, ◌and◌, ◌or◌, if◌then◌otherwise◌}
 use Rattle.laws.specs.Guarded.{found}
 use Rattle.laws.proofs.Cases.{by, no_both, if_on, ok_on, guard_on, find_on}
 use Rattle.record_process.specs.declared.Process.{Process}
@@ -165,7 +165,7 @@ module _ {t : Tables} (T : Tree t) (f : Thread → Thread) (fm : (v : Thread) �
       if_on (λ (w : Thread). w.made ≡ v.made) (thread_of v p) _ _ (λ e. fm v) (λ e. refl)
 
   change_none : (p : ℕ) → change_in f p no_thread ≡ no_thread
-  unfolding change_in thread_of ◌and◌ if◌then◌else◌
+  unfolding change_in thread_of ◌and◌ if◌then◌otherwise◌
   change_none p = refl
 
   -- of a process, or of a made thread
@@ -196,7 +196,7 @@ module _ {t : Tables} (T : Tree t) where
   -- a task that is found, and neither a job nor a process, is a made thread
   task_thread : (kind n : ℕ) → (kind =? 0) ≡ false → found_task t kind n ≡ OldTask
       → (kind =? 1) ≡ false → (thread_at t n).made ≡ true
-  unfolding found_task if◌then◌else◌
+  unfolding found_task if◌then◌otherwise◌
   task_thread kind n a e b = found_thread_lem t n (rw (a, b) at e)
 
   suspend_tree : (kind n : ℕ) → (kind =? 0) ≡ false → found_task t kind n ≡ OldTask

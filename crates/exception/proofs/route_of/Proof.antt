@@ -1,11 +1,11 @@
-use Rattle.laws.specs.Choice.{◌or◌, if◌then◌else◌}
+use Rattle.laws.specs.Choice.{◌or◌, if◌then◌otherwise◌}
 use Rattle.model.specs.Exception.{is_hardware, route_of}
 use Rattle.exception.proofs.Routes.{no_type}
 use Rattle.exception.proofs.route_of.Statement.{statement}
 use Rattle.exception.proofs.route_of.Tie as tie
 
 pub route_of_spec : {M : Type 1} → statement M
-unfolding route_of is_hardware if◌then◌else◌ ◌or◌
+unfolding route_of is_hardware if◌then◌otherwise◌ ◌or◌
 route_of_spec =
     tie.close
     (tie.spec

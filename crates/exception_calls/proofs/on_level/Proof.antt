@@ -1,4 +1,4 @@
-use Rattle.laws.specs.Choice.{if◌then◌else◌}
+use Rattle.laws.specs.Choice.{if◌then◌otherwise◌}
 use Rattle.exceptionate.specs.Exceptionate.{of_process, of_job}
 use Rattle.exception_calls.proofs.Levels.{no_level}
 use borrow.Author.Rules.{rules}
@@ -6,7 +6,7 @@ use Rattle.exception_calls.proofs.on_level.Statement.{statement}
 use Rattle.exception_calls.proofs.on_level.Tie as tie
 
 pub on_level_spec : {M : Type 1} → statement M
-unfolding of_process of_job if◌then◌else◌
+unfolding of_process of_job if◌then◌otherwise◌
 on_level_spec =
     tie.close
     (tie.spec

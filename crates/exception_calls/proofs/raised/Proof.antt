@@ -2,14 +2,14 @@ use borrow.Author.Rules.{rules}
 use mir.Syntax.{w64}
 use mir.Val.{SFits}
 use mir.Facts.{to_z-of_z}
-use Rattle.laws.specs.Choice.{if◌then◌else◌}
+use Rattle.laws.specs.Choice.{if◌then◌otherwise◌}
 use Rattle.exception.specs.Raise.{raised_in}
 use Rattle.exception_calls.proofs.raised.Statement.{statement}
 use Rattle.exception_calls.proofs.raised.Tie as tie
 
 -- the records stored, and the exit where it was asked for
 pub raised_spec : {M : Type 1} → statement M
-unfolding raised_in if◌then◌else◌
+unfolding raised_in if◌then◌otherwise◌
 raised_spec =
     tie.close
     (tie.spec

@@ -1,4 +1,4 @@
-use Rattle.laws.specs.Choice.{if◌then◌else◌}
+use Rattle.laws.specs.Choice.{if◌then◌otherwise◌}
 use Rattle.records.specs.Owners.{level_of_job, job_level}
 use Rattle.exceptionate.specs.Exceptionate.{of_job}
 use borrow.Author.Rules.{rules}
@@ -6,7 +6,7 @@ use Rattle.exceptionate.proofs.job_level.Statement.{statement}
 use Rattle.exceptionate.proofs.job_level.Tie as tie
 
 pub job_level_spec : {M : Type 1} → statement M
-unfolding level_of_job job_level of_job if◌then◌else◌
+unfolding level_of_job job_level of_job if◌then◌otherwise◌
 job_level_spec =
     tie.close
     (tie.spec

@@ -1,4 +1,4 @@
-use Rattle.laws.specs.Choice.{if◌then◌else◌}
+use Rattle.laws.specs.Choice.{if◌then◌otherwise◌}
 use Rattle.records.specs.Owners.{level_of_process, process_level}
 use Rattle.exceptionate.specs.Exceptionate.{of_process}
 use borrow.Author.Rules.{rules}
@@ -6,7 +6,7 @@ use Rattle.exceptionate.proofs.process_level.Statement.{statement}
 use Rattle.exceptionate.proofs.process_level.Tie as tie
 
 pub process_level_spec : {M : Type 1} → statement M
-unfolding level_of_process process_level of_process if◌then◌else◌
+unfolding level_of_process process_level of_process if◌then◌otherwise◌
 process_level_spec =
     tie.close
     (tie.spec

@@ -1,14 +1,14 @@
 use mir.Syntax.{w64}
 use mir.Val.{SFits}
 use mir.Facts.{to_z-of_z}
-use Rattle.laws.specs.Choice.{if◌then◌else◌}
+use Rattle.laws.specs.Choice.{if◌then◌otherwise◌}
 use Rattle.job.specs.Job.{killed_in}
 use borrow.Author.Rules.{rules}
 use Rattle.job_calls.proofs.killed_in.Statement.{statement}
 use Rattle.job_calls.proofs.killed_in.Tie as tie
 
 pub killed_in_spec : {M : Type 1} → statement M
-unfolding killed_in if◌then◌else◌
+unfolding killed_in if◌then◌otherwise◌
 killed_in_spec =
     tie.close
     (tie.spec

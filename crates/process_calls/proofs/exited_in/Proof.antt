@@ -1,14 +1,14 @@
 use mir.Syntax.{w64}
 use mir.Val.{SFits}
 use mir.Facts.{to_z-of_z}
-use Rattle.laws.specs.Choice.{if◌then◌else◌}
+use Rattle.laws.specs.Choice.{if◌then◌otherwise◌}
 use Rattle.process.specs.Process.{exited_in}
 use borrow.Author.Rules.{rules}
 use Rattle.process_calls.proofs.exited_in.Statement.{statement}
 use Rattle.process_calls.proofs.exited_in.Tie as tie
 
 pub exited_in_spec : {M : Type 1} → statement M
-unfolding exited_in if◌then◌else◌
+unfolding exited_in if◌then◌otherwise◌
 exited_in_spec =
     tie.close
     (tie.spec

@@ -5,7 +5,7 @@ use lib.ListN.{length}
 use lib.Seq.{length-take-le}
 use borrow.Author.Rules.{rules}
 use borrow.Author.Tests.{eq-eqb, ne_eqb, lt-ltb, le-ltb}
-use Rattle.laws.specs.Choice.{if◌then◌else◌}
+use Rattle.laws.specs.Choice.{if◌then◌otherwise◌}
 use Rattle.lines.specs.Line.{within}
 use Rattle.lines.proofs.Puts.{roomy}
 use Rattle.stream_state.specs.State.{closing}
@@ -13,12 +13,12 @@ use Rattle.stream_state.proofs.close.Statement.{statement}
 use Rattle.stream_state.proofs.close.Tie as tie
 
 returns : tie.Need-returns-then-out-lt-LINE
-unfolding within if◌then◌else◌
+unfolding within if◌then◌otherwise◌
 returns c =
     (simp (lt-ltb _ _ c.if-out-lt-LINE.true) (record { end = refl; holds = refl }), (omega arith, refl))
 
 returns_2 : tie.Need-returns-then-left-eq0
-unfolding within closing if◌then◌else◌
+unfolding within closing if◌then◌otherwise◌
 returns_2 c = (
   simp (
     le-ltb _ _ c.if-out-lt-LINE.false,
@@ -28,7 +28,7 @@ returns_2 c = (
 )
 
 returns_3 : tie.Need-returns
-unfolding within closing if◌then◌else◌
+unfolding within closing if◌then◌otherwise◌
 returns_3 c =
     let n = c.next_number.ensures in
     let room = c.if-out-lt-LINE.false in

@@ -1,14 +1,14 @@
 use mir.Syntax.{w64}
 use mir.Val.{SFits}
 use mir.Facts.{to_z-of_z}
-use Rattle.laws.specs.Choice.{if◌then◌else◌}
+use Rattle.laws.specs.Choice.{if◌then◌otherwise◌}
 use Rattle.thread.specs.Move.{finished}
 use borrow.Author.Rules.{rules}
 use Rattle.thread_calls.proofs.finished.Statement.{statement}
 use Rattle.thread_calls.proofs.finished.Tie as tie
 
 pub finished_spec : {M : Type 1} → statement M
-unfolding finished if◌then◌else◌
+unfolding finished if◌then◌otherwise◌
 finished_spec =
     tie.close
     (tie.spec
