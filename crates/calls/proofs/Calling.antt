@@ -74,7 +74,8 @@ no_other n a b c bs h1 h2 h3 h4 h5 h6 h7 h8 h9 h10 h11 h12 h13 h14 h15 h16 h17 h
 
 -- the entries past the four
 no_pairs : List BasicPolicy
-no_pairs = no_pair ∷ no_pair ∷ no_pair ∷ no_pair ∷ no_pair ∷ no_pair ∷ no_pair ∷ no_pair ∷ no_pair ∷ no_pair ∷ no_pair ∷ []
+no_pairs =
+    no_pair ∷ no_pair ∷ no_pair ∷ no_pair ∷ no_pair ∷ no_pair ∷ no_pair ∷ no_pair ∷ no_pair ∷ no_pair ∷ no_pair ∷ []
 
 by_count : (above : Bool) (j option n : ℕ) (bs : List ℕ) → (above ≡ false → n ≤ 4) →
     call_of (if above then NoCall otherwise OnJob (SetPolicy option n) j) (fifteen_at bs)

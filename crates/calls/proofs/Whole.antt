@@ -26,7 +26,8 @@ use Rattle.calls.specs.Calls.{Called, no_call, called, call_by, call_at, call_in
 
 -- the tests of `next_of` that a whole command has passed
 size_by : (none unknown cut over : Bool) (z n : ℕ) →
-    (if none then Wait otherwise if unknown then Stop otherwise if cut then Wait otherwise if over then Stop otherwise Whole z)
+    (if none then Wait otherwise if unknown then Stop otherwise if cut then Wait otherwise
+    if over then Stop otherwise Whole z)
     ≡ Whole n → (z ≡ n) × (over ≡ false)
 unfolding if◌then◌otherwise◌
 size_by true unknown cut over z n h = let k : ◌≡◌ {A = ℕ} 0 1 = cc in absurd (omega arith)
@@ -83,7 +84,8 @@ module _ (code : ℕ) where
       IsCall (if code =? suc n then called c otherwise y)
   row n c y = row_by n (called c) y (λ _. is_call c)
 
-  call_by_lem : (a b c : ℕ) (bs : List ℕ) → (code ≡ 15 → c ≤ 4) → (size_of code ≡ 0 → ⊥) → IsCall (call_by code a b c bs)
+  call_by_lem : (a b c : ℕ) (bs : List ℕ) → (code ≡ 15 → c ≤ 4) → (size_of code ≡ 0 → ⊥) →
+      IsCall (call_by code a b c bs)
   unfolding call_by NoneOf if◌then◌otherwise◌
   call_by_lem a b c bs few known =
       let list : code ≡ 15 → IsCall (if 4 <? c then no_call otherwise called (cmd0f a b (take c (pairs_at bs)))) =

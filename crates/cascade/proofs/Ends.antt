@@ -60,7 +60,8 @@ unbound : (b : Critical) → is_critical b ≡ false → b ≡ Free
 unbound Free e = refl
 unbound (To j nonzero) e = no_both refl e
 
-lives_on : (t : Tables) (j p : ℕ) (a : Process) → (job_at t j).killed ≡ false → may_terminate (put_process t p a) j ≡ false
+lives_on : (t : Tables) (j p : ℕ) (a : Process) → (job_at t j).killed ≡ false →
+    may_terminate (put_process t p a) j ≡ false
 unfolding may_terminate job_at put_process
 lives_on t j p a k = sym (and_stops _ k)
 

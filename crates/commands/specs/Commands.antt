@@ -38,7 +38,8 @@ no_pair = record { condition = 0; action = 0 }
 -- the four, and eleven more, so that they are as many as there are conditions
 abbrev pub fifteen_at : List ℕ → List BasicPolicy
 fifteen_at bs =
-    pair_at bs 4 ∷ pair_at bs 6 ∷ pair_at bs 8 ∷ pair_at bs 10 ∷ no_pair ∷ no_pair ∷ no_pair ∷ no_pair ∷ no_pair ∷ no_pair ∷
+    pair_at bs 4 ∷ pair_at bs 6 ∷ pair_at bs 8 ∷ pair_at bs 10 ∷
+    no_pair ∷ no_pair ∷ no_pair ∷ no_pair ∷ no_pair ∷ no_pair ∷
     no_pair ∷ no_pair ∷ no_pair ∷ no_pair ∷ no_pair ∷ []
 
 -- the bytes of each command, 00 to 1f; 0 for no command

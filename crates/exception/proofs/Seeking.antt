@@ -145,7 +145,8 @@ module _ (t : Tables) (z : Sized t) (n : ℕ) (h : n < 128) where
       Sound t n p (try_at u n place k) (if is_bound l then x otherwise y)
   unfolding if◌then◌otherwise◌
   sound_try {p} u w place k {l} {x} {y} e f a b =
-      subst (λ (s : Search). Sound t n p s (if is_bound l then x otherwise y)) (sym (tries u n place k e f)) (go (is_bound l))
+      subst (λ (s : Search). Sound t n p s (if is_bound l then x otherwise y))
+      (sym (tries u n place k e f)) (go (is_bound l))
     where
       go : (c : Bool) → Sound t n p (if c then taken u place otherwise k w) (if c then x otherwise y)
       go true = a
@@ -168,7 +169,8 @@ module _ (t : Tables) (z : Sized t) (n : ℕ) (h : n < 128) where
 
   second_sound : (v : Thread) (q : Process) (f : Fits v.process q) (b : Bool) →
       Sound t n v.process (model.from_second_chance (stored t n v q) n b) (from_second_chance v q b)
-  unfolding model.from_second_chance model.from_jobs from_second_chance if◌then◌otherwise◌ level_at pass_over put_level_at sent
+  unfolding model.from_second_chance model.from_jobs from_second_chance if◌then◌otherwise◌ level_at pass_over
+      put_level_at sent
   second_sound v q f true =
       sound_try (stored t n v q) _ SecondChance (λ u. model.from_jobs u n) (level1_there t z n h v q f)
       (pass_level1 t z n h v q f) (ends v q f (To SecondChance))
@@ -279,7 +281,8 @@ module _ (t : Tables) (n : ℕ) {q : Process} (e : process_at t (process_of t n)
   own_jobs : (d : Bool) → search_up 32 (job_place d) t n (own_job t n) ≡ search_up 32 (job_place d) t n q.job
   own_jobs d = ap (λ (x : Process). search_up 32 (job_place d) t n x.job) e
 
-  pub first_is : (r : Route) → is_to_exiting r ≡ false → model.first_handler r t n ≡ from_stage (first_stage r q) false t n
+  pub first_is : (r : Route) → is_to_exiting r ≡ false →
+      model.first_handler r t n ≡ from_stage (first_stage r q) false t n
   unfolding model.first_handler first_stage from_stage
   first_is Ordinary x = refl
   first_is JobDebuggers x = own_jobs true
@@ -293,7 +296,8 @@ module _ (t : Tables) (n : ℕ) {q : Process} (e : process_at t (process_of t n)
   after_is kind b = go (kind =? 0x8008)
     where
       go : (a : Bool) →
-          if a then no_handler t otherwise model.from_thread t n b ≡ from_stage (if a then NobodyLeft otherwise FromThread) b t n
+          if a then no_handler t otherwise model.from_thread t n b ≡
+          from_stage (if a then NobodyLeft otherwise FromThread) b t n
       go true = refl
       go false = refl
 

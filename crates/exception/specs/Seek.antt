@@ -123,7 +123,8 @@ passed_jobs debugger jobs j = set jobs j (passed_in debugger (get_or jobs j no_j
 unfoldable pub climbing : ℕ → Bool → List Job → ℕ → Climbed
 climbing zero debugger jobs j = climbed Nobody jobs
 climbing (suc k) debugger jobs j =
-    ite (is_bound (level_in debugger (get_or jobs j no_job))) (λ _. climbed (HandlerAt (job_place debugger j)) jobs) λ _.
+    ite (is_bound (level_in debugger (get_or jobs j no_job)))
+    (λ _. climbed (HandlerAt (job_place debugger j)) jobs) λ _.
     on_parent (get_or (passed_jobs debugger jobs j) j no_job).parent (climbed Nobody (passed_jobs debugger jobs j)) λ i.
     climbing k debugger (passed_jobs debugger jobs j) i
 

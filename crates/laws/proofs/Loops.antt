@@ -60,7 +60,8 @@ module _ {A : Type 0} (f : A → A) where
   map_to_suc [] (suc i) d = refl
   map_to_suc (x ∷ l) (suc i) d = ap (λ (s : List A). f x ∷ s) (map_to_suc l i d)
 
-  pub map_to_next : (l : List A) (i : ℕ) (d : A) → set (map_to f i l) i (f (get_or (map_to f i l) i d)) ≡ map_to f (i + 1) l
+  pub map_to_next : (l : List A) (i : ℕ) (d : A) →
+      set (map_to f i l) i (f (get_or (map_to f i l) i d)) ≡ map_to f (i + 1) l
   map_to_next l i d = rw (map_to_at l i d, map_to_suc l i d, add-one)
 
   pub map_to_all : (l : List A) (i : ℕ) → length l ≤ i → map f l ≡ map_to f i l

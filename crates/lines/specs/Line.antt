@@ -1,6 +1,7 @@
 -- A reply as a line of text, in ASCII: the call's number, its answer, then its fields, each after
 -- one space. Read it beside document 01, "Commands of the recorder".
-use Rattle.std.specs.Prelude.{ℕ, zero, suc, ◌+◌, ◌/◌, ◌%◌, ◌≡◌, Bool, true, false, List, [], ◌∷◌, ◌++◌, ℤ, pos, negsuc, length, take}
+use Rattle.std.specs.Prelude.{ℕ, zero, suc, ◌+◌, ◌/◌, ◌%◌, ◌≡◌, Bool, true, false}
+use Rattle.std.specs.Prelude.{List, [], ◌∷◌, ◌++◌, ℤ, pos, negsuc, length, take}
 use Rattle.laws.specs.Choice.{◌<?◌, if◌then◌otherwise◌}
 use Rattle.job_policy.specs.Policy.{get_action}
 use Rattle.job_policy.specs.declared.JobPolicy.{JobPolicy}

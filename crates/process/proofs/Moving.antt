@@ -103,7 +103,8 @@ pub denied_there : {r b : Bool} {a : ActionFound} {f : JobPolicy} (t : Tables) (
     is_denied (get_action (fixed_at t p) c) ≡ b
 denied_there t p c x y e k h = sym (ap is_denied (there t p c e k h)) ∙ sym x ∙ y
 
-pub shows_info : {s : Shown} (t : Tables) (q : Process) → s ≡ shown_fields (fields_of q) → showing t s ≡ process_info t q
+pub shows_info : {s : Shown} (t : Tables) (q : Process) → s ≡ shown_fields (fields_of q) →
+    showing t s ≡ process_info t q
 unfolding process_info fields_of
 shows_info t q e = shows_fields t (fields_of q) e
 

@@ -49,8 +49,12 @@ module _ (input out₀ : List ℕ) (s₀ : State) (out : List ℕ) (t : Tables) 
   pub fits : at + n ≤ length input
   fits = (whole_fits input out₀ out s₀ (state_of t number) at w held.1 room x found n whole).1
 
-  pub some : 0 < n
+  some : 0 < n
   some = (whole_fits input out₀ out s₀ (state_of t number) at w held.1 room x found n whole).0
+
+  -- a turn uses up some of the input
+  pub falls : length input - (at + n) < length input - at
+  falls = omega (arith, fits, some)
 
   pub turns : {r : Reply} {next : ℕ} {a : ℤ} {f : Fields} {p : JobPolicy} {out' : List ℕ} {w' : ℕ} →
       r ≡ perform t (call_in (take n (rest input at))) → Sized r.tables → next ≡ next_number number →

@@ -25,7 +25,8 @@ pub the_thread : {g : FoundThread} {v : Thread} (h : FoundThread) → g ≡ h �
 unfolding level_of_thread
 the_thread h p q = rw (← p, q)
 
-pub no_process_lem : {g : FoundProcess} (h : FoundProcess) (n : ℕ) → g ≡ h → g ≡ NoProcess → NoLevel ≡ level_of_process h n
+pub no_process_lem : {g : FoundProcess} (h : FoundProcess) (n : ℕ) → g ≡ h → g ≡ NoProcess →
+    NoLevel ≡ level_of_process h n
 unfolding level_of_process
 no_process_lem h n p q = rw (← p, q)
 

@@ -141,7 +141,8 @@ module _ (t : Tables) (kind n : ℕ) {v : Thread} (h : thread_at t (n % 128) ≡
     unfolding resumed_in resume_task
     resumes_task e = changes RESUME resume t kind n h l (λ a. resumed_each n t.threads (u a)) e
 
-    pub resumes : {m : Task} → m ≡ resumed_in kind v → task_in RESUME t kind n m ≡ answered (resume_task t kind n) (pos 0)
+    pub resumes : {m : Task} → m ≡ resumed_in kind v →
+        task_in RESUME t kind n m ≡ answered (resume_task t kind n) (pos 0)
     unfolding resumed_in task_in
     resumes e = rw (resumes_task e, answers resume kind v e)
 

@@ -75,7 +75,8 @@ Concerned t kind n count v q j barred =
     (kind ≡ PROCESS → any (has_count n count) t.threads ≡ barred)
 
 abbrev pub Suspends : (Tables → Reply) → (kind n : ℕ) → Thread → Process → Job → Bool → Task → Type 0
-Suspends f kind n v q j barred m = (t : Tables) → Concerned t kind n FULL v q j barred → task_in SUSPEND t kind n m ≡ f t
+Suspends f kind n v q j barred m = (t : Tables) →
+    Concerned t kind n FULL v q j barred → task_in SUSPEND t kind n m ≡ f t
 
 abbrev pub Resumes : (Tables → Reply) → (kind n : ℕ) → Thread → Process → Job → Bool → Task → Type 0
 Resumes f kind n v q j barred m = (t : Tables) → Concerned t kind n 0 v q j barred → task_in RESUME t kind n m ≡ f t

@@ -79,7 +79,8 @@ module _ (k p : ℕ) (l₀ l : List Thread) (s : Bool) (i : ℕ) (inv : Changing
       rw (← drop-cons l i no_thread (within h)) (take-append-drop i l) in
       sym (next h _ (bars_it k p here (drop (suc i) l) (sym a ∙ x) (sym c ∙ y)) ∙ rw (or_true s, whole))
 
-  pub goes_on_lem : {r b : Bool} {w : Thread} → i < 128 → r ≡ thread_of here p → r ≡ true → b ≡ bars k here → b ≡ false →
+  pub goes_on_lem : {r b : Bool} {w : Thread} → i < 128 → r ≡ thread_of here p → r ≡ true →
+      b ≡ bars k here → b ≡ false →
       w ≡ one_of k here →
       each_unless k p l₀ ≡ joined (take (i + 1) (set l i w)) true (each_unless k p (drop (i + 1) (set l i w)))
   unfolding ◌or◌

@@ -34,7 +34,8 @@ by_code k d x m h =
     d.byte_at.ensures m
 
 pub command_of_spec : {M : Type 1} → statement M
-unfolding call_by call_of level_call thread_call pair_call process_call job_call exception_call task_call show_call if◌then◌otherwise◌
+unfolding call_by call_of level_call thread_call pair_call process_call job_call exception_call task_call show_call
+    if◌then◌otherwise◌
 command_of_spec =
     tie.close
     (tie.spec

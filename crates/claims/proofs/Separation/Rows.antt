@@ -148,24 +148,25 @@ record Made : Type 0 where
   pub without_x : first_killed (answers state (of_second calls)) ≡ false
 
 made : Made
-unfolding Run get_action apply merged_action merge larger generate_new ◌and◌ ◌or◌ if◌then◌otherwise◌ ite settle any zip
-    is_hardware route_of owner_of level_at put_level_at pass_over try_at search_up from_jobs from_second_chance from_process
-    from_thread from_debugger first_handler next_handler unhandled deliver raise_exiting raise close bind_level
-    hang_up_level raise_exception close_exception set_state set_strategy get_process_handle lists_child lists_process
-    job_empty lists_thread on_parent is_above may_terminate terminate_up terminate_job stop_in stop_threads up_to is_live_job
-    is_live_process kill_child exit_member kill_listed kill_step kill_bound unlist_process end_step exit_listed exit_step
-    count remaining kill_job exit_process end_process finish_thread kill_within exit_within with_child create_child
-    kill_job_call set_policy_basic set_policy_timer_slack job_info job_information with_new_process create_process with_started
-    start_process exit_process_call kill_process set_critical_at_job check_policy process_info process_information policy_of
-    bad_entry set_each policy_set set_policy panics_at is_denied old_job old_process old_thread old_token held_exception
-    old_level old_task step answers some_at change_in change_task suspend_task resume_task create_token drop_token
-    create_thread start_thread kill_thread exit_thread finish_thread_call thread_info thread_information is_wait_state
-    wait_begun begin_wait wait_answer wait_polled poll_wait create_token_call drop_token_call suspend_call resume_call
-    owners_of process_level job_level level_of_thread level_of_process level_of_job found_level put_level tasks_of made_job
-    made_process made_thread found_task child_of ended acts member_of hides shown_state is_live is_free thread_of kill exit
-    suspend resume end_wait reply answered fresh_tables job_at own_at inherited_at process_at fixed_at thread_at token_at
-    found_job found_process found_thread found_token put_job put_own put_inherited put_process put_fixed put_thread put_token
-    final of_second to_second calls
+unfolding Run get_action apply merged_action merge larger generate_new ◌and◌ ◌or◌ if◌then◌otherwise◌ ite settle any
+    zip is_hardware route_of owner_of level_at put_level_at pass_over try_at search_up from_jobs from_second_chance
+    from_process from_thread from_debugger first_handler next_handler unhandled deliver raise_exiting raise close
+    bind_level hang_up_level raise_exception close_exception set_state set_strategy get_process_handle lists_child
+    lists_process job_empty lists_thread on_parent is_above may_terminate terminate_up terminate_job stop_in
+    stop_threads up_to is_live_job is_live_process kill_child exit_member kill_listed kill_step kill_bound
+    unlist_process end_step exit_listed exit_step count remaining kill_job exit_process end_process finish_thread
+    kill_within exit_within with_child create_child kill_job_call set_policy_basic set_policy_timer_slack job_info
+    job_information with_new_process create_process with_started start_process exit_process_call kill_process
+    set_critical_at_job check_policy process_info process_information policy_of bad_entry set_each policy_set
+    set_policy panics_at is_denied old_job old_process old_thread old_token held_exception old_level old_task step
+    answers some_at change_in change_task suspend_task resume_task create_token drop_token create_thread start_thread
+    kill_thread exit_thread finish_thread_call thread_info thread_information is_wait_state wait_begun begin_wait
+    wait_answer wait_polled poll_wait create_token_call drop_token_call suspend_call resume_call owners_of
+    process_level job_level level_of_thread level_of_process level_of_job found_level put_level tasks_of made_job
+    made_process made_thread found_task child_of ended acts member_of hides shown_state is_live is_free thread_of kill
+    exit suspend resume end_wait reply answered fresh_tables job_at own_at inherited_at process_at fixed_at thread_at
+    token_at found_job found_process found_thread found_token put_job put_own put_inherited put_process put_fixed
+    put_thread put_token final of_second to_second calls
 made =
     record {
       job_x = refl;
@@ -217,23 +218,25 @@ needed f = no_both made.with_x
     (ap first_killed (f before x y apart is_x is_y calls) ∙ made.without_x)
 
 pub separation_rows : SeparationRows
-unfolding Run get_action apply merged_action merge larger generate_new ◌and◌ ◌or◌ if◌then◌otherwise◌ ite settle any zip
-    is_hardware route_of owner_of level_at put_level_at pass_over try_at search_up from_jobs from_second_chance from_process
-    from_thread from_debugger first_handler next_handler unhandled deliver raise_exiting raise close bind_level
-    hang_up_level raise_exception close_exception set_state set_strategy get_process_handle lists_child lists_process
-    job_empty lists_thread on_parent is_above may_terminate terminate_up terminate_job stop_in stop_threads up_to is_live_job
-    is_live_process kill_child exit_member kill_listed kill_step kill_bound unlist_process end_step exit_listed exit_step
-    count remaining kill_job exit_process end_process finish_thread kill_within exit_within with_child create_child
-    kill_job_call set_policy_basic set_policy_timer_slack job_info job_information with_new_process create_process with_started
-    start_process exit_process_call kill_process set_critical_at_job check_policy process_info process_information policy_of
-    bad_entry set_each policy_set set_policy panics_at is_denied old_job old_process old_thread old_token held_exception
-    old_level old_task step answers some_at change_in change_task suspend_task resume_task create_token drop_token
-    create_thread start_thread kill_thread exit_thread finish_thread_call thread_info thread_information is_wait_state
-    wait_begun begin_wait wait_answer wait_polled poll_wait create_token_call drop_token_call suspend_call resume_call
-    owners_of process_level job_level level_of_thread level_of_process level_of_job found_level put_level tasks_of made_job
-    made_process made_thread found_task child_of ended acts member_of hides shown_state is_live is_free thread_of kill exit
-    suspend resume end_wait reply answered fresh_tables job_at own_at inherited_at process_at fixed_at thread_at token_at
-    found_job found_process found_thread found_token put_job put_own put_inherited put_process put_fixed put_thread put_token
+unfolding Run get_action apply merged_action merge larger generate_new ◌and◌ ◌or◌ if◌then◌otherwise◌ ite settle any
+    zip is_hardware route_of owner_of level_at put_level_at pass_over try_at search_up from_jobs from_second_chance
+    from_process from_thread from_debugger first_handler next_handler unhandled deliver raise_exiting raise close
+    bind_level hang_up_level raise_exception close_exception set_state set_strategy get_process_handle lists_child
+    lists_process job_empty lists_thread on_parent is_above may_terminate terminate_up terminate_job stop_in
+    stop_threads up_to is_live_job is_live_process kill_child exit_member kill_listed kill_step kill_bound
+    unlist_process end_step exit_listed exit_step count remaining kill_job exit_process end_process finish_thread
+    kill_within exit_within with_child create_child kill_job_call set_policy_basic set_policy_timer_slack job_info
+    job_information with_new_process create_process with_started start_process exit_process_call kill_process
+    set_critical_at_job check_policy process_info process_information policy_of bad_entry set_each policy_set
+    set_policy panics_at is_denied old_job old_process old_thread old_token held_exception old_level old_task step
+    answers some_at change_in change_task suspend_task resume_task create_token drop_token create_thread start_thread
+    kill_thread exit_thread finish_thread_call thread_info thread_information is_wait_state wait_begun begin_wait
+    wait_answer wait_polled poll_wait create_token_call drop_token_call suspend_call resume_call owners_of
+    process_level job_level level_of_thread level_of_process level_of_job found_level put_level tasks_of made_job
+    made_process made_thread found_task child_of ended acts member_of hides shown_state is_live is_free thread_of kill
+    exit suspend resume end_wait reply answered fresh_tables job_at own_at inherited_at process_at fixed_at thread_at
+    token_at found_job found_process found_thread found_token put_job put_own put_inherited put_process put_fixed
+    put_thread put_token
 separation_rows =
     record {
       premise_needed = needed;

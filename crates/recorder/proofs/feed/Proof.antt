@@ -36,7 +36,7 @@ use Rattle.stream_state.specs.State.{state_of}
 use Rattle.stream_state.proofs.Feeding.{begins, full, waits, stops}
 use Rattle.recorder.proofs.Sizes.{job_sized, own_sized, inherited_sized, process_sized, fixed_sized}
 use Rattle.recorder.proofs.Sizes.{thread_sized, token_sized, jobs_sized, threads_sized}
-use Rattle.recorder.proofs.Turning.{Held, rest, performed, turns, fits, some}
+use Rattle.recorder.proofs.Turning.{Held, rest, performed, turns, fits, falls}
 use Rattle.recorder.proofs.Arms as arms
 use Rattle.recorder.proofs.feed.Statement.{statement}
 use Rattle.recorder.proofs.feed.Tie as tie
@@ -66,7 +66,8 @@ returns : tie.Need-returns-then-out-written-lt-LINE invariant_loop decreases_loo
 returns c =
     let b : c.loop-out.written ≤ length c.loop-out.out = c.loop-out.invariant.1.1.0 in
     rw c.fed_at.ensures (
-      full c.args.input.now c.args.out.now c.loop-out.out c.args.state (state_of c.loop-out.t c.loop-out.number) c.loop-out.at c.loop-out.written
+      full c.args.input.now c.args.out.now c.loop-out.out c.args.state (state_of c.loop-out.t c.loop-out.number)
+          c.loop-out.at c.loop-out.written
           c.loop-out.invariant.1
           c.if-out-written-lt-LINE.true,
       ((b, sym (length-take-le _ _ b)), c.loop-out.invariant.1.0),
@@ -76,7 +77,8 @@ returns_2 : tie.Need-returns-in-Wait invariant_loop decreases_loop
 returns_2 c =
     let b : c.loop-out.written ≤ length c.loop-out.out = c.loop-out.invariant.1.1.0 in
     rw c.fed_at-in-Wait.ensures (
-      waits c.args.input.now c.args.out.now c.loop-out.out c.args.state (state_of c.loop-out.t c.loop-out.number) c.loop-out.at c.loop-out.written
+      waits c.args.input.now c.args.out.now c.loop-out.out c.args.state (state_of c.loop-out.t c.loop-out.number)
+          c.loop-out.at c.loop-out.written
           c.loop-out.invariant.1
           c.if-out-written-lt-LINE.false _ c.next_of.ensures c.in-Wait.is,
       ((b, sym (length-take-le _ _ b)), c.loop-out.invariant.1.0),
@@ -88,7 +90,8 @@ returns_3 c =
     let b : c.put_stop-written.result ≤ length c.put_stop-written.new.out =
     omega (arith, c.put_stop-written.ensures.1, c.put_stop-written.auto.out, c.if-out-written-lt-LINE.false) in
     rw c.fed_at-in-Stop.ensures (
-      stops c.args.input.now c.args.out.now c.loop-out.out c.args.state (state_of c.loop-out.t c.loop-out.number) c.loop-out.at c.loop-out.written
+      stops c.args.input.now c.args.out.now c.loop-out.out c.args.state (state_of c.loop-out.t c.loop-out.number)
+          c.loop-out.at c.loop-out.written
           c.loop-out.invariant.1
           c.if-out-written-lt-LINE.false _ c.next_of.ensures c.in-Stop.is put,
       ((b, sym (length-take-le _ _ b)), c.loop-out.invariant.1.0),
@@ -103,12 +106,6 @@ size c = c.in-Whole.n
 
 abbrev bytes : Known → List ℕ
 bytes c = take (size c) (rest c.args.input.now c.loop-out.at)
-
-within_input : (c : Known) → c.loop-out.at + size c ≤ length c.args.input.now
-within_input c =
-    fits c.args.input.now c.args.out.now c.args.state c.loop-out.out c.loop-out.t
-    c.loop-out.number c.loop-out.at c.loop-out.written c.loop-out.invariant c.if-out-written-lt-LINE.false
-    c.next_of.ensures c.in-Whole.is
 
 turn : (c : Known) {r : Reply} {y : Command} {a : ℤ} {f : Fields} {p : JobPolicy} {out' : List ℕ} {w' : ℕ} →
     c.command_of.result ≡ y → r ≡ perform c.loop-out.t (call_of y (fifteen_at (bytes c))) → Sized r.tables →
@@ -129,12 +126,6 @@ turn c h e z ea ef ep put b k =
 
 never_none : {x : Called} → IsCall x → x ≡ no_call → ⊥
 never_none (is_call c) e = let z : ◌≡◌ {A = ℕ} 0 1 = cc in omega arith
-
-positive : (c : Known) → 0 < size c
-positive c =
-    some c.args.input.now c.args.out.now c.args.state c.loop-out.out c.loop-out.t
-    c.loop-out.number c.loop-out.at c.loop-out.written c.loop-out.invariant c.if-out-written-lt-LINE.false
-    c.next_of.ensures c.in-Whole.is
 
 -- a whole command is a call
 returns_4 : tie.Need-returns-in-NoCall invariant_loop decreases_loop
@@ -166,7 +157,8 @@ loop_again_2 c =
     let t = k.loop-out.t in
     let u = c.put_answer-written-in-OnThread in
     turn k c.in-OnThread.is
-    (arms.thread_finishes t c.in-OnThread.name c.on_thread-m.result (c.on_thread-m.ensures t (arms.read_thread z _ _)) c.if-m.true c.remove_thread-t.ensures)
+    (arms.thread_finishes t c.in-OnThread.name c.on_thread-m.result (c.on_thread-m.ensures t (arms.read_thread z _ _))
+    c.if-m.true c.remove_thread-t.ensures)
     (record {
       jobs = search (length_mapped, c.remove_thread-t.type_inv.1.1.0);
       own = search (length_mapped, c.remove_thread-t.type_inv.1.1.1.0);
@@ -219,12 +211,16 @@ loop_again_4 c =
 loop_again_5 : tie.Need-loop-out-preserved-then-ends_here invariant_loop decreases_loop
 unfolding answered reply call_of perform put_process
 loop_again_5 c =
-    let k = c.before.before.before.before.before.before.before.before.before.before.before.before.before.before.before.before.before.before.before in
+    let j = c.before.before.before.before.before.before.before.before.before in
+    let k = j.before.before.before.before.before.before.before.before.before.before in
     let z = k.loop-out.invariant.0 in
     let t = k.loop-out.t in
     let u = c.put_answer-written-in-OnProcess in
     turn k c.in-OnProcess.is
-    (arms.process_ends t c.in-OnProcess.a c.on_process-m.result (c.on_process-m.ensures t (arms.read_process z _ _) (arms.read_job z _ _) (sym (c.is_above-above.ensures t refl))) z _ c.if-m-2.true (told c.ends_here.ensures c.if-ends_here.true) c.ended-ended.ensures)
+    (arms.process_ends t c.in-OnProcess.a c.on_process-m.result
+    (c.on_process-m.ensures t (arms.read_process z _ _) (arms.read_job z _ _)
+    (sym (c.is_above-above.ensures t refl))) z _ c.if-m-2.true (told c.ends_here.ensures c.if-ends_here.true)
+    c.ended-ended.ensures)
     (process_sized (process_sized z _ _) _ _)
     (sym (to_z-of_z {w = w64} (search (
       rules,
@@ -235,12 +231,15 @@ loop_again_5 c =
 loop_again_6 : tie.Need-loop-out-preserved-else-ends_here invariant_loop decreases_loop
 unfolding answered reply call_of perform put_process
 loop_again_6 c =
-    let k = c.before.before.before.before.before.before.before.before.before.before.before.before.before.before.before.before.before.before.before in
+    let j = c.before.before.before.before.before.before.before.before.before in
+    let k = j.before.before.before.before.before.before.before.before.before.before in
     let z = k.loop-out.invariant.0 in
     let t = k.loop-out.t in
     let u = c.put_answer-written-in-OnProcess in
     turn k c.in-OnProcess.is
-    (arms.process_exits t c.in-OnProcess.a c.on_process-m.result (c.on_process-m.ensures t (arms.read_process z _ _) (arms.read_job z _ _) (sym (c.is_above-above.ensures t refl))) c.if-m-2.true c.exit_listed-t.ensures)
+    (arms.process_exits t c.in-OnProcess.a c.on_process-m.result
+    (c.on_process-m.ensures t (arms.read_process z _ _) (arms.read_job z _ _)
+    (sym (c.is_above-above.ensures t refl))) c.if-m-2.true c.exit_listed-t.ensures)
     (record {
       jobs = search (length_mapped, c.exit_listed-t.type_inv.1.1.0);
       own = search (length_mapped, c.exit_listed-t.type_inv.1.1.1.0);
@@ -264,7 +263,9 @@ loop_again_7 c =
     let t = k.loop-out.t in
     let u = c.put_answer-written-in-OnProcess in
     turn k c.in-OnProcess.is
-    (arms.process_stays t c.in-OnProcess.a c.on_process-m.result (c.on_process-m.ensures t (arms.read_process z _ _) (arms.read_job z _ _) (sym (c.is_above-above.ensures t refl))) c.if-m-2.false)
+    (arms.process_stays t c.in-OnProcess.a c.on_process-m.result
+    (c.on_process-m.ensures t (arms.read_process z _ _) (arms.read_job z _ _)
+    (sym (c.is_above-above.ensures t refl))) c.if-m-2.false)
     (process_sized z _ _)
     (sym (to_z-of_z {w = w64} (search (
       rules,
@@ -275,14 +276,16 @@ loop_again_7 c =
 loop_again_8 : tie.Need-loop-out-preserved-then-m-3 invariant_loop decreases_loop
 unfolding answered reply call_of perform put_job put_own
 loop_again_8 c =
-    let k = c.before.before.before.before.before.before.before.before.before.before.before.before.before.before.before.before.before.before in
+    let j = c.before.before.before.before.before.before.before.before.before in
+    let k = j.before.before.before.before.before.before.before.before.before in
     let z = k.loop-out.invariant.0 in
     let t = k.loop-out.t in
     let u = c.put_answer-written-in-OnJob in
     turn k c.in-OnJob.is
     (arms.job_kills t c.in-OnJob.name c.on_job-m.result (c.on_job-m.ensures t (arms.read_job z _ _) (arms.read_own
     z _ _) (arms.read_inherited z _ _) (sym c.stands_alone-alone.ensures) ∙ ap (λ (l : List
-    BasicPolicy). step t (job_call c.in-OnJob.c c.in-OnJob.name l)) c.fifteen_at-policies.ensures) c.if-m-3.true c.kill_job-t.ensures)
+    BasicPolicy). step t (job_call c.in-OnJob.c c.in-OnJob.name l)) c.fifteen_at-policies.ensures) c.if-m-3.true
+    c.kill_job-t.ensures)
     (record {
       jobs = search (length_mapped, c.kill_job-t.type_inv.1.1.0);
       own = search (length_mapped, c.kill_job-t.type_inv.1.1.1.0);
@@ -301,12 +304,14 @@ loop_again_8 c =
 loop_again_9 : tie.Need-loop-out-preserved-else-m-3 invariant_loop decreases_loop
 unfolding answered reply call_of perform put_job put_own
 loop_again_9 c =
-    let k = c.before.before.before.before.before.before.before.before.before.before.before.before.before.before.before.before.before in
+    let j = c.before.before.before.before.before.before.before.before in
+    let k = j.before.before.before.before.before.before.before.before.before in
     let z = k.loop-out.invariant.0 in
     let t = k.loop-out.t in
     let u = c.put_answer-written-in-OnJob in
     turn k c.in-OnJob.is
-    (arms.job_stays t c.in-OnJob.name c.on_job-m.result (c.on_job-m.ensures t (arms.read_job z _ _) (arms.read_own z _ _)
+    (arms.job_stays t c.in-OnJob.name c.on_job-m.result (c.on_job-m.ensures t (arms.read_job z _ _)
+    (arms.read_own z _ _)
     (arms.read_inherited z _ _) (sym c.stands_alone-alone.ensures) ∙ ap (λ (l : List BasicPolicy). step t
     (job_call c.in-OnJob.c c.in-OnJob.name l)) c.fifteen_at-policies.ensures) c.if-m-3.false)
     (own_sized (job_sized z _ _) _ _)
@@ -319,12 +324,15 @@ loop_again_9 c =
 loop_again_10 : tie.Need-loop-out-preserved-then-m-4 invariant_loop decreases_loop
 unfolding answered reply call_of perform put_process put_thread
 loop_again_10 c =
-    let k = c.before.before.before.before.before.before.before.before.before.before.before.before.before.before.before.before.before in
+    let j = c.before.before.before.before.before.before.before.before in
+    let k = j.before.before.before.before.before.before.before.before.before in
     let z = k.loop-out.invariant.0 in
     let t = k.loop-out.t in
     let u = c.put_line-written in
     turn k c.in-OnException.is
-    (arms.raised_exits t c.in-OnException.name _ c.on_exception-m.result (c.on_exception-m.ensures t z (arms.read_thread z _ _) (arms.read_process z _ _) refl) c.if-m-4.true c.exit_listed-t-then-m-4.ensures)
+    (arms.raised_exits t c.in-OnException.name _ c.on_exception-m.result
+    (c.on_exception-m.ensures t z (arms.read_thread z _ _) (arms.read_process z _ _) refl) c.if-m-4.true
+    c.exit_listed-t-then-m-4.ensures)
     (record {
       jobs = search (length_mapped, c.exit_listed-t-then-m-4.type_inv.1.1.0);
       own = search (length_mapped, c.exit_listed-t-then-m-4.type_inv.1.1.1.0);
@@ -343,7 +351,8 @@ loop_again_10 c =
 loop_again_11 : tie.Need-loop-out-preserved-else-m-4 invariant_loop decreases_loop
 unfolding answered reply call_of perform put_process put_thread
 loop_again_11 c =
-    let k = c.before.before.before.before.before.before.before.before.before.before.before.before.before.before.before.before in
+    let j = c.before.before.before.before.before.before.before.before in
+    let k = j.before.before.before.before.before.before.before.before in
     let z = k.loop-out.invariant.0 in
     let t = k.loop-out.t in
     let u = c.put_line-written in
@@ -363,7 +372,8 @@ loop_again_11 c =
 loop_again_12 : tie.Need-loop-out-preserved-then-moved invariant_loop decreases_loop
 unfolding answered reply call_of perform ◌and◌ put_token
 loop_again_12 c =
-    let k = c.before.before.before.before.before.before.before.before.before.before.before.before.before.before.before.before.before.before.before.before.before.before.before.before in
+    let j = c.before.before.before.before.before.before.before.before.before.before.before.before in
+    let k = j.before.before.before.before.before.before.before.before.before.before.before.before in
     let z = k.loop-out.invariant.0 in
     let t = k.loop-out.t in
     let u = c.put_answer-written-then-task-eq-PROCESS in
@@ -393,7 +403,8 @@ loop_again_12 c =
 loop_again_13 : tie.Need-loop-out-preserved-else-moved invariant_loop decreases_loop
 unfolding answered reply call_of perform ◌and◌ put_token put_thread
 loop_again_13 c =
-    let k = c.before.before.before.before.before.before.before.before.before.before.before.before.before.before.before.before.before.before.before.before.before.before.before.before in
+    let j = c.before.before.before.before.before.before.before.before.before.before.before.before in
+    let k = j.before.before.before.before.before.before.before.before.before.before.before.before in
     let z = k.loop-out.invariant.0 in
     let t = k.loop-out.t in
     let u = c.put_answer-written-then-task-eq-PROCESS in
@@ -420,7 +431,8 @@ loop_again_13 c =
 loop_again_14 : tie.Need-loop-out-preserved-else-task-eq-PROCESS invariant_loop decreases_loop
 unfolding answered reply call_of perform ◌and◌ put_token put_thread
 loop_again_14 c =
-    let k = c.before.before.before.before.before.before.before.before.before.before.before.before.before.before.before.before.before.before.before.before in
+    let j = c.before.before.before.before.before.before.before.before.before.before in
+    let k = j.before.before.before.before.before.before.before.before.before.before in
     let z = k.loop-out.invariant.0 in
     let t = k.loop-out.t in
     let u = c.put_answer-written-else-task-eq-PROCESS in
@@ -521,13 +533,15 @@ feed_spec =
     (λ c. search rules)
     (λ c. simp (length-take, length-drop) (omega (
       arith,
-      fits c.args.input.now c.args.out.now c.args.state c.loop-out.out c.loop-out.t c.loop-out.number c.loop-out.at c.loop-out.written c.loop-out.invariant c.if-out-written-lt-LINE.false c.next_of.ensures c.in-Whole.is,
+      fits c.args.input.now c.args.out.now c.args.state c.loop-out.out c.loop-out.t c.loop-out.number c.loop-out.at
+          c.loop-out.written c.loop-out.invariant c.if-out-written-lt-LINE.false c.next_of.ensures c.in-Whole.is,
     )))
     (λ c κs. tt)
     (λ c. omega (
       arith,
       fits c.args.input.now
-          c.args.out.now c.args.state c.loop-out.out c.loop-out.t c.loop-out.number c.loop-out.at c.loop-out.written c.loop-out.invariant c.if-out-written-lt-LINE.false c.next_of.ensures c.in-Whole.is,
+          c.args.out.now c.args.state c.loop-out.out c.loop-out.t c.loop-out.number c.loop-out.at c.loop-out.written
+          c.loop-out.invariant c.if-out-written-lt-LINE.false c.next_of.ensures c.in-Whole.is,
       c.well_formed.1.0.0,
     ))
     (λ c κs. tt)
@@ -537,10 +551,13 @@ feed_spec =
     returns_4
     (λ c. search rules)
     (λ c κs. tt)
-    (λ c. omega (
+    (λ c.
+    let a = c.args in
+    let l = c.loop-out in
+    omega (
       arith,
-      positive c.before.before.before.before.before,
-      within_input c.before.before.before.before.before,
+      falls a.input.now a.out.now a.state l.out l.t l.number l.at l.written l.invariant
+          c.if-out-written-lt-LINE.false c.next_of.ensures c.in-Whole.is,
     ))
     loop_again
     (λ c. search rules)
@@ -552,16 +569,22 @@ feed_spec =
     (λ c. search rules)
     (λ c κs. tt)
     (λ c κs. search rules)
-    (λ c. omega (
+    (λ c.
+    let a = c.args in
+    let l = c.loop-out in
+    omega (
       arith,
-      positive c.before.before.before.before.before.before.before.before.before.before.before,
-      within_input c.before.before.before.before.before.before.before.before.before.before.before,
+      falls a.input.now a.out.now a.state l.out l.t l.number l.at l.written l.invariant
+          c.if-out-written-lt-LINE.false c.next_of.ensures c.in-Whole.is,
     ))
     loop_again_2
-    (λ c. omega (
+    (λ c.
+    let a = c.args in
+    let l = c.loop-out in
+    omega (
       arith,
-      positive c.before.before.before.before.before.before.before.before.before.before,
-      within_input c.before.before.before.before.before.before.before.before.before.before,
+      falls a.input.now a.out.now a.state l.out l.t l.number l.at l.written l.invariant
+          c.if-out-written-lt-LINE.false c.next_of.ensures c.in-Whole.is,
     ))
     loop_again_3
     (λ c. search rules)
@@ -577,10 +600,13 @@ feed_spec =
     (λ c. search rules)
     (λ c. search rules)
     (λ c κs. tt)
-    (λ c. omega (
+    (λ c.
+    let a = c.args in
+    let l = c.loop-out in
+    omega (
       arith,
-      positive c.before.before.before.before.before.before.before.before.before.before.before,
-      within_input c.before.before.before.before.before.before.before.before.before.before.before,
+      falls a.input.now a.out.now a.state l.out l.t l.number l.at l.written l.invariant
+          c.if-out-written-lt-LINE.false c.next_of.ensures c.in-Whole.is,
     ))
     loop_again_4
     (λ c. search rules)
@@ -602,23 +628,32 @@ feed_spec =
     (λ c κs. tt)
     (λ c. search rules)
     (λ c. search rules)
-    (λ c. omega (
+    (λ c.
+    let a = c.args in
+    let l = c.loop-out in
+    omega (
       arith,
-      positive c.before.before.before.before.before.before.before.before.before.before.before.before.before.before.before.before.before.before.before,
-      within_input c.before.before.before.before.before.before.before.before.before.before.before.before.before.before.before.before.before.before.before,
+      falls a.input.now a.out.now a.state l.out l.t l.number l.at l.written l.invariant
+          c.if-out-written-lt-LINE.false c.next_of.ensures c.in-Whole.is,
     ))
     loop_again_5
     (λ c κs. search rules)
-    (λ c. omega (
+    (λ c.
+    let a = c.args in
+    let l = c.loop-out in
+    omega (
       arith,
-      positive c.before.before.before.before.before.before.before.before.before.before.before.before.before.before.before.before.before.before.before,
-      within_input c.before.before.before.before.before.before.before.before.before.before.before.before.before.before.before.before.before.before.before,
+      falls a.input.now a.out.now a.state l.out l.t l.number l.at l.written l.invariant
+          c.if-out-written-lt-LINE.false c.next_of.ensures c.in-Whole.is,
     ))
     loop_again_6
-    (λ c. omega (
+    (λ c.
+    let a = c.args in
+    let l = c.loop-out in
+    omega (
       arith,
-      positive c.before.before.before.before.before.before.before.before.before.before.before.before.before,
-      within_input c.before.before.before.before.before.before.before.before.before.before.before.before.before,
+      falls a.input.now a.out.now a.state l.out l.t l.number l.at l.written l.invariant
+          c.if-out-written-lt-LINE.false c.next_of.ensures c.in-Whole.is,
     ))
     loop_again_7
     (λ c. search rules)
@@ -638,17 +673,22 @@ feed_spec =
     (λ c. search rules)
     (λ c κs. tt)
     (λ c κs. search rules)
-    (λ c. omega (
+    (λ c.
+    let a = c.args in
+    let l = c.loop-out in
+    omega (
       arith,
-      positive c.before.before.before.before.before.before.before.before.before.before.before.before.before.before.before.before.before.before,
-      within_input
-          c.before.before.before.before.before.before.before.before.before.before.before.before.before.before.before.before.before.before,
+      falls a.input.now a.out.now a.state l.out l.t l.number l.at l.written l.invariant
+          c.if-out-written-lt-LINE.false c.next_of.ensures c.in-Whole.is,
     ))
     loop_again_8
-    (λ c. omega (
+    (λ c.
+    let a = c.args in
+    let l = c.loop-out in
+    omega (
       arith,
-      positive c.before.before.before.before.before.before.before.before.before.before.before.before.before.before.before.before.before,
-      within_input c.before.before.before.before.before.before.before.before.before.before.before.before.before.before.before.before.before,
+      falls a.input.now a.out.now a.state l.out l.t l.number l.at l.written l.invariant
+          c.if-out-written-lt-LINE.false c.next_of.ensures c.in-Whole.is,
     ))
     loop_again_9
     (λ c. search rules)
@@ -666,16 +706,22 @@ feed_spec =
     (λ c κs. tt)
     (λ c κs. tt)
     (λ c κs. search rules)
-    (λ c. omega (
+    (λ c.
+    let a = c.args in
+    let l = c.loop-out in
+    omega (
       arith,
-      positive c.before.before.before.before.before.before.before.before.before.before.before.before.before.before.before.before.before,
-      within_input c.before.before.before.before.before.before.before.before.before.before.before.before.before.before.before.before.before,
+      falls a.input.now a.out.now a.state l.out l.t l.number l.at l.written l.invariant
+          c.if-out-written-lt-LINE.false c.next_of.ensures c.in-Whole.is,
     ))
     loop_again_10
-    (λ c. omega (
+    (λ c.
+    let a = c.args in
+    let l = c.loop-out in
+    omega (
       arith,
-      positive c.before.before.before.before.before.before.before.before.before.before.before.before.before.before.before.before,
-      within_input c.before.before.before.before.before.before.before.before.before.before.before.before.before.before.before.before,
+      falls a.input.now a.out.now a.state l.out l.t l.number l.at l.written l.invariant
+          c.if-out-written-lt-LINE.false c.next_of.ensures c.in-Whole.is,
     ))
     loop_again_11
     (λ c. search rules)
@@ -698,18 +744,24 @@ feed_spec =
     (λ c. search rules)
     (λ c. search rules)
     (λ c κs. tt)
-    (λ c. omega (
+    (λ c.
+    let a = c.args in
+    let l = c.loop-out in
+    omega (
       arith,
-      positive c.before.before.before.before.before.before.before.before.before.before.before.before.before.before.before.before.before.before.before.before.before.before.before.before,
-      within_input c.before.before.before.before.before.before.before.before.before.before.before.before.before.before.before.before.before.before.before.before.before.before.before.before,
+      falls a.input.now a.out.now a.state l.out l.t l.number l.at l.written l.invariant
+          c.if-out-written-lt-LINE.false c.next_of.ensures c.in-Whole.is,
     ))
     loop_again_12
     (λ c. search rules)
     (λ c. search rules)
-    (λ c. omega (
+    (λ c.
+    let a = c.args in
+    let l = c.loop-out in
+    omega (
       arith,
-      positive c.before.before.before.before.before.before.before.before.before.before.before.before.before.before.before.before.before.before.before.before.before.before.before.before,
-      within_input c.before.before.before.before.before.before.before.before.before.before.before.before.before.before.before.before.before.before.before.before.before.before.before.before,
+      falls a.input.now a.out.now a.state l.out l.t l.number l.at l.written l.invariant
+          c.if-out-written-lt-LINE.false c.next_of.ensures c.in-Whole.is,
     ))
     loop_again_13
     (λ c κs. tt)
@@ -718,10 +770,13 @@ feed_spec =
     (λ c. search rules)
     (λ c. search rules)
     (λ c κs. tt)
-    (λ c. omega (
+    (λ c.
+    let a = c.args in
+    let l = c.loop-out in
+    omega (
       arith,
-      positive c.before.before.before.before.before.before.before.before.before.before.before.before.before.before.before.before.before.before.before.before,
-      within_input c.before.before.before.before.before.before.before.before.before.before.before.before.before.before.before.before.before.before.before.before,
+      falls a.input.now a.out.now a.state l.out l.t l.number l.at l.written l.invariant
+          c.if-out-written-lt-LINE.false c.next_of.ensures c.in-Whole.is,
     ))
     loop_again_14
     (λ c. search rules)
@@ -742,10 +797,13 @@ feed_spec =
     (λ c. search rules)
     (λ c κs. search rules)
     (λ c κs. tt)
-    (λ c. omega (
+    (λ c.
+    let a = c.args in
+    let l = c.loop-out in
+    omega (
       arith,
-      positive c.before.before.before.before.before.before.before.before.before.before.before.before.before.before,
-      within_input c.before.before.before.before.before.before.before.before.before.before.before.before.before.before,
+      falls a.input.now a.out.now a.state l.out l.t l.number l.at l.written l.invariant
+          c.if-out-written-lt-LINE.false c.next_of.ensures c.in-Whole.is,
     ))
     loop_again_15
     (λ c. search rules)
@@ -767,10 +825,13 @@ feed_spec =
     (λ c. search rules)
     (λ c. search rules)
     (λ c κs. tt)
-    (λ c. omega (
+    (λ c.
+    let a = c.args in
+    let l = c.loop-out in
+    omega (
       arith,
-      positive c.before.before.before.before.before.before.before.before.before.before.before.before.before.before,
-      within_input c.before.before.before.before.before.before.before.before.before.before.before.before.before.before,
+      falls a.input.now a.out.now a.state l.out l.t l.number l.at l.written l.invariant
+          c.if-out-written-lt-LINE.false c.next_of.ensures c.in-Whole.is,
     ))
     loop_again_16
     (λ c. search rules)
@@ -792,9 +853,12 @@ feed_spec =
     (λ c. search rules)
     (λ c. search rules)
     (λ c κs. tt)
-    (λ c. omega (
+    (λ c.
+    let a = c.args in
+    let l = c.loop-out in
+    omega (
       arith,
-      positive c.before.before.before.before.before.before.before.before.before.before.before.before.before.before,
-      within_input c.before.before.before.before.before.before.before.before.before.before.before.before.before.before,
+      falls a.input.now a.out.now a.state l.out l.t l.number l.at l.written l.invariant
+          c.if-out-written-lt-LINE.false c.next_of.ensures c.in-Whole.is,
     ))
     loop_again_17)

@@ -74,5 +74,6 @@ resume_spec =
     (λ c κs. search rules)
     (λ c t h.
     let s = c.before.before in
-    accepted s t h c.if-some_at.false (resumes t _ _ h.0 (within t _ _ 0 h (bound s) (ne_eqb _ _ c.if-kind-eq-JOB.false))
+    accepted s t h c.if-some_at.false
+    (resumes t _ _ h.0 (within t _ _ 0 h (bound s) (ne_eqb _ _ c.if-kind-eq-JOB.false))
     (unbarred t _ _ 0 h (bound s) c.some_at.ensures c.if-some_at.false) c.resumed.ensures)))
