@@ -13,10 +13,10 @@ import os
 import re
 import sys
 
-NAME = r"[^\s(){}.;,@\"«»:]+"
+NAME = r"[^\s(){}.;,@\"«»:`]+"
 TOKEN = re.compile(rf"(?<![^\s(){{}};,@«»:.\"`]){NAME}(?![^\s(){{}}.;,@«»:\"`])")
 MARKS = r"(?:(?:pattern|unfoldable|abbrev|pub|opaque) )*"
-SIGNED = re.compile(rf"^ *{MARKS}({NAME})(?: \{{[^{{}}\n]*\}})* :(?: |$)")
+SIGNED = re.compile(rf"^ *{MARKS}({NAME}(?: {NAME})*)(?: \{{[^{{}}\n]*\}})* :(?: |$)")
 NAMED = re.compile(rf"^ *{MARKS}(data|record|ruleset) ({NAME})")
 MORE = re.compile(r"^\s+\S")
 USE = re.compile(r"\buse ([^\s;{]+?)\.?(?:\{([^}]*)\})?(?: as (\S+))?\s*;?\s*$", re.M)
@@ -66,9 +66,9 @@ def declared(top):
             if not line.startswith(" "):
                 inside = None if line.strip() else inside
             if m := SIGNED.match(line):
-                names.add(m[1])
+                names |= {*m[1].split()}
                 if inside and line.startswith(" "):
-                    fields.add(m[1])
+                    fields |= {*m[1].split()}
         if "/specs/" in path:
             stated |= names - known
     return names, fields, stated
@@ -138,13 +138,26 @@ def choices(path, text):
     return re.sub(r"(?m)^.*$", line, text)
 
 
+def comments(text, names):
+    """A name between backticks of a comment, which port.py passes over: as it is declared now."""
+
+    def word(m):
+        return snake(m[0]) if plain(m[0]) and m[0] not in names and snake(m[0]) in names else m[0]
+
+    def quoted(m):
+        return re.sub(r"[^\s`(),.]+", word, m[0])
+
+    return re.sub(r"(?m)^ *(?:--|//).*$", lambda m: re.sub(r"`[^`]*`", quoted, m[0]), text)
+
+
 def main():
     top = sys.argv[1] if len(sys.argv) > 1 else "."
     turned, fields = table(top)
+    names = {turned.get(n, n) for n in declared(top)[0]}
     count = 0
     for path in files(top, (".antt", ".rt", ".edit")):
         old = read(path)
-        new = choices(path, respell(path, old, turned, fields))
+        new = comments(choices(path, respell(path, old, turned, fields)), names)
         if new != old:
             count += 1
             with open(path, "w", encoding="utf-8") as f:

@@ -126,7 +126,7 @@ child_made : {t : Tables} → Tree t → (j p : ℕ) → (job_at t j).parent ≡
     → (job_at t j).made ≡ true
 child_made {t} T j p e =
     by (job_at t j).made (λ m. m)
-    (λ m. orphan≢child (ap (λ (v : Job). v.parent) (T.no_job_lem j m).0) e)
+    (λ m. orphan≢child (ap (λ (v : Job). v.parent) (T.job_unmade j m).0) e)
 
 ranks_before : {r : ℕ → ℕ} {t u : Tables} → Tree t → Olds t u → Ranks r u → Ranks r t
 ranks_before T o R =
@@ -149,7 +149,7 @@ module _ {t : Tables} (T : Tree t) (n : ℕ) (e : Exception)
   held_made : (thread_at t n).made ≡ true
   held_made =
       by (thread_at t n).made (λ m. m)
-      (λ m. idle≢held (sym (ap (λ (v : Thread). v.waiting) (T.no_thread_lem n m)) ∙ w))
+      (λ m. idle≢held (sym (ap (λ (v : Thread). v.waiting) (T.thread_unmade n m)) ∙ w))
 
   own_made : (job_at t (own_job t n)).made ≡ true
   own_made = T.job_made (thread_at t n).process (T.process_made n held_made)

@@ -1,4 +1,4 @@
--- What each call does, in one of the seven ways of `Does`: `does-step`. Assumes nothing.
+-- What each call does, in one of the seven ways of `Does`: `does_step`. Assumes nothing.
 use mathlib.Core.Path.{refl}
 use Rattle.records.specs.declared.tables.Tables.{Tables}
 use Rattle.model.specs.Step.{Call, cmd01, cmd02, cmd03, cmd04, cmd05, cmd06, cmd07, cmd08}

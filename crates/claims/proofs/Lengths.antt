@@ -1,4 +1,4 @@
--- How long the tables are: no store changes it. `onJob₂` and its like ask for two tables of one
+-- How long the tables are: no store changes it. `on_job₂` and its like ask for two tables of one
 -- length. Assumes nothing.
 use Prim.Native.Nat.{ℕ}
 use mathlib.Core.Path.{◌≡◌, refl, ap}

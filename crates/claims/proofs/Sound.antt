@@ -1,5 +1,5 @@
--- `Sound` holds at the start (`fresh-sound`) and after every call (`sound-step`), hence of every
--- reachable state: `reachable`. Beside it, what a call has closed since (`closed-step`). Assumes
+-- `Sound` holds at the start (`fresh_sound`) and after every call (`sound_step`), hence of every
+-- reachable state: `reachable`. Beside it, what a call has closed since (`closed_step`). Assumes
 -- nothing.
 use Prim.Native.Nat.{ℕ, ◌<◌}
 use native.Mathlib.Omega.{arith}

@@ -1,6 +1,6 @@
 -- The parts of the tables that a cascade leaves, and the marks that it never takes back, by name;
 -- and that a killed job is killed and an exited process Exited with the code given. u is what a
--- cascade made of t (`cascade-kill`, ..). Assumes nothing.
+-- cascade made of t (`cascade_kill`, ..). Assumes nothing.
 use Prim.Native.Nat.{ℕ}
 use mathlib.Core.Path.{◌≡◌, refl, sym, ap, ◌∙◌, subst}
 use mathlib.Core.Bool.{true}

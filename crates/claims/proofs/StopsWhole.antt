@@ -1,4 +1,4 @@
--- After any call on a reachable state, what is to stop has stopped whole: `stops-whole`. Assumes
+-- After any call on a reachable state, what is to stop has stopped whole: `stops_whole`. Assumes
 -- nothing.
 use Prim.Native.Nat.{ℕ}
 use native.Mathlib.Omega.{arith}
@@ -88,7 +88,7 @@ codes_does {t} (new_job_lem j new m k h f) T =
 codes_does {t} {c = c} (new_process_lem j new m k h f) T =
     let x : Tables = put_process t new (new_process j) in
     let A : Codes (Ends t c) t x = codes_put t new (new_process j)
-    (λ y. no_both y (ap (λ (q : Process). is_exited q.status) (T.no_process_lem new f).0))
+    (λ y. no_both y (ap (λ (q : Process). is_exited q.status) (T.process_unmade new f).0))
     (λ y z. no_both z refl) in
     codes_both (λ p z y. y) A (codes_same x (with_new_process t j new) (λ p. unfold with_new_process in
     (ap (λ (q : Process). q.status) (process_at_put_fixed x new _ p))))

@@ -1,4 +1,4 @@
--- Changes of the whole thread table, above all `stopThreads`: each thread by itself, and no other
+-- Changes of the whole thread table, above all `stop_threads`: each thread by itself, and no other
 -- table. Assumes nothing.
 use Prim.Native.Nat.{ℕ}
 use mathlib.Core.Path.{◌≡◌, refl, ◌∙◌, ap}

@@ -1,4 +1,4 @@
--- `Tree` holds at the start (`fresh-tree`), and after every call (`tree-step`). Assumes nothing.
+-- `Tree` holds at the start (`fresh_tree`), and after every call (`tree_step`). Assumes nothing.
 use Prim.Native.Nat.{ℕ, zero, suc}
 use native.Mathlib.Omega.{arith}
 use mathlib.Core.Path.{◌≡◌, refl, sym, subst}

@@ -29,12 +29,12 @@ pub data AtOrAbove (t : Tables) (j : ℕ) : ℕ → Type 0 where
 pub record Tree (t : Tables) : Type 0 where
   pub sized : Sized t
   -- what is not made is as it was at the start
-  pub no_job_lem : (j : ℕ) → (job_at t j).made ≡ false →
+  pub job_unmade : (j : ℕ) → (job_at t j).made ≡ false →
       (job_at t j ≡ no_job) × (own_at t j ≡ no_policy) × (inherited_at t j ≡ no_policy)
-  pub no_process_lem : (p : ℕ) → (process_at t p).made ≡ false →
+  pub process_unmade : (p : ℕ) → (process_at t p).made ≡ false →
       (process_at t p ≡ no_process) × (fixed_at t p ≡ no_policy)
-  pub no_thread_lem : (n : ℕ) → (thread_at t n).made ≡ false → thread_at t n ≡ no_thread
-  pub no_token_lem : (k : ℕ) → (token_at t k).made ≡ false → token_at t k ≡ no_token
+  pub thread_unmade : (n : ℕ) → (thread_at t n).made ≡ false → thread_at t n ≡ no_thread
+  pub token_unmade : (k : ℕ) → (token_at t k).made ≡ false → token_at t k ≡ no_token
   -- the root is made, and has no parent; every other made job has one
   pub root_made : (job_at t 0).made ≡ true
   pub root_orphan : (job_at t 0).parent ≡ Orphan

@@ -1,4 +1,4 @@
--- One pass over a list comes to what `setPolicyBasic` says of it: the check of every entry first,
+-- One pass over a list comes to what `set_policy_basic` says of it: the check of every entry first,
 -- then the entries in order.
 --     one_pass, one_pass_at    what is answered then is the definition's answer
 --     pass_next, pass_end      a turn of a loop over the list, and its end

@@ -1,5 +1,5 @@
 -- How the code goes through a list once: what is known at the start, after an entry, and what is
--- answered at the end. `one-pass` of proofs/Fold.antt takes this to `setPolicyBasic` of model.
+-- answered at the end. `one_pass` of proofs/Fold.antt takes this to `set_policy_basic` of model.
 use Rattle.std.specs.Prelude.{ℕ, Bool, true, false, not, List, [], ◌∷◌}
 use Rattle.laws.specs.Choice.{◌≤?◌, ◌<?◌, ◌=?◌, if◌then◌otherwise◌}
 use Rattle.laws.specs.Guarded.{ok, ◌>>◌, ◌>>=◌, refuse◌when◌, deny◌when◌}

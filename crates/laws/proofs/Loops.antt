@@ -2,7 +2,7 @@
 --     Searched, any_here, any_next, any_none    a test of every element
 --     map_to, map_to_next, map_to_all              a change of every element, the first i so far
 --     zip_to, zip_to_next, zip_to_all              a change of every element by the one beside it
---     length_mapped                             `search length-mapped` finds the length of an array of structs
+--     length_mapped                             `search length_mapped` finds the length of an array of structs
 -- Assumes nothing.
 use Prim.Native.Nat.{ℕ, zero, suc, ◌+◌, ◌<◌, ◌≤◌}
 use native.Mathlib.Numerals.{add-one}

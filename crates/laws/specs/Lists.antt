@@ -1,5 +1,5 @@
 -- Tests and changes of whole tables, which the definitions hold as lists.
--- (`get_or`, `set` and `replicate` are lib.ListN's, `map` is mathlib.Core.List's.)
+-- (`get_or`, `set`, `replicate` and `map` are the library's.)
 use Rattle.std.specs.Prelude.{Bool, false, List, [], ◌∷◌}
 use Rattle.laws.specs.Choice.{◌or◌}
 

@@ -1,6 +1,6 @@
 -- A cascade's depth does not matter once it is above the count of what is live. So killing and
--- exiting meet the equations that their code follows, in which no depth stands: `kill-is`,
--- `exit-is`. Assumes nothing.
+-- exiting meet the equations that their code follows, in which no depth stands: `kill_is`,
+-- `exit_is`. Assumes nothing.
 use Prim.Native.Nat.{ℕ, zero, suc, ◌≤◌, ◌<◌}
 use native.Mathlib.Nat.{le_refl, lt_of_le_of_lt}
 use native.Mathlib.Omega.{arith}

@@ -14,14 +14,14 @@ use Rattle.model.specs.Step.{cmd1b, cmd1c, cmd1d, cmd1e, cmd1f, step}
 
 -- the shapes of the fields after an answer
 pub data Shape : Type 0 where
-  bare owner of_job of_process ofThread : Shape
+  bare owner of_job of_process of_thread : Shape
 
 abbrev pub shape_of : Fields → Shape
 shape_of NoFields = bare
 shape_of (OwnerField n) = owner
 shape_of (JobFields k e a m) = of_job
 shape_of (ProcessFields c s e d x) = of_process
-shape_of (ThreadFields s l n) = ofThread
+shape_of (ThreadFields s l n) = of_thread
 
 -- a command's refusals, the answers of an accepted call, and its fields
 pub record Row : Type 0 where
@@ -72,7 +72,7 @@ row_of (cmd1a n r) =
     (pos 0 ∷ minus 60 ∷ minus 21 ∷ minus 23 ∷ minus 22 ∷ []) bare
 row_of (cmd1b j) = row (pos 101 ∷ pos 103 ∷ []) (pos 0 ∷ []) of_job
 row_of (cmd1c p) = row (pos 101 ∷ pos 103 ∷ []) (pos 0 ∷ []) of_process
-row_of (cmd1d n) = row (pos 101 ∷ pos 103 ∷ []) (pos 0 ∷ []) ofThread
+row_of (cmd1d n) = row (pos 101 ∷ pos 103 ∷ []) (pos 0 ∷ []) of_thread
 row_of (cmd1e i n) = plain (pos 104 ∷ pos 101 ∷ pos 103 ∷ pos 106 ∷ pos 107 ∷ [])
 row_of (cmd1f i n) = plain (pos 104 ∷ pos 101 ∷ pos 103 ∷ pos 106 ∷ [])
 
@@ -86,7 +86,7 @@ PolicyShown bare p = p ≡ no_policy
 PolicyShown owner p = p ≡ no_policy
 PolicyShown of_job p = Unit {0}
 PolicyShown of_process p = p ≡ no_policy
-PolicyShown ofThread p = p ≡ no_policy
+PolicyShown of_thread p = p ≡ no_policy
 
 -- refused with no field, or accepted with the command's fields
 pub data Answered (c : Call) (answer : ℤ) (fields : Fields) (policy : JobPolicy) : Type 0 where

@@ -96,7 +96,7 @@ kill_child K j c t = ite (child_of (job_at t c) j) (λ _. K t c) λ _. t
 unfoldable pub exit_member : (Tables → ℕ → ℤ → Tables) → ℕ → ℕ → Tables → Tables
 exit_member X j p t = ite (member_of (process_at t p) j) (λ _. X t p KILL_CODE) λ _. t
 
--- a job marked killed: an empty one terminates, otherwise children come first, then processes
+-- a job marked killed: an empty one terminates, else children come first, then processes
 unfoldable pub kill_listed : (Tables → ℕ → Tables) → (Tables → ℕ → ℤ → Tables) → Tables → ℕ → Tables
 kill_listed K X t j =
     ite (job_empty t j) (λ _. terminate_job t j) λ _.

@@ -1,4 +1,4 @@
--- A call other than its closing leaves an exception where it is, or ends it: `Waits-at` stays over every other call
+-- A call other than its closing leaves an exception where it is, or ends it: `WaitsAt` stays over every other call
 -- (`others`). Assumes nothing.
 use Prim.Native.Nat.{ℕ}
 use mathlib.Core.Path.{◌≡◌, sym, ap, ◌∙◌}

@@ -1,5 +1,5 @@
 -- The place of the exception that thread n waits in, and what changes of the tables leave it: Q of that place
--- (`Waits-at`) stays over each store, over a search of another thread and over a cascade. Assumes nothing.
+-- (`WaitsAt`) stays over each store, over a search of another thread and over a cascade. Assumes nothing.
 use Prim.Native.Nat.{ℕ}
 use native.Mathlib.Omega.{arith}
 use mathlib.Core.Path.{◌≡◌, refl, sym, ap, subst}

@@ -32,7 +32,7 @@ module _ {t : Tables} (T : Tree t) where
   job_made k d u =
       by (job_at t k).made (λ m. m)
       (λ m.
-      let o : (job_at t k).parent ≡ Orphan = ap (λ (v : Job). v.parent) (T.no_job_lem k m).0 in
+      let o : (job_at t k).parent ≡ Orphan = ap (λ (v : Job). v.parent) (T.job_unmade k m).0 in
       let z : ◌≡◌ {A = Bool} true false = cc in no_both refl z)
 
   process_made : (p j : ℕ) (b : Bool) → (process_at t p).critical ≡ To j b →
@@ -41,7 +41,7 @@ module _ {t : Tables} (T : Tree t) where
       by (process_at t p).made (λ m. m)
       (λ m.
       let o : (process_at t p).critical ≡ Free = ap (λ (q : Process). q.critical)
-      (T.no_process_lem p m).0 in
+      (T.process_unmade p m).0 in
       let z : ◌≡◌ {A = Bool} true false = cc in no_both refl z)
 
   -- below a trip's job all is the trip's
@@ -78,7 +78,7 @@ module _ {t : Tables} (T : Tree t) where
           of_y = J.processes p;
           bound_x = bound n p;
           listed_made = λ l. by (process_at t p).made (λ m. m)
-              (λ m. no_both l (ap (λ (q : Process). q.listed) (T.no_process_lem p m).0));
+              (λ m. no_both l (ap (λ (q : Process). q.listed) (T.process_unmade p m).0));
         }
 
     thread_fits : (n : ℕ) → ThreadFits x y n (thread_at t n)
@@ -87,7 +87,7 @@ module _ {t : Tables} (T : Tree t) where
           of_x = I.threads n;
           of_y = J.threads n;
           listed_made = λ l. by (thread_at t n).made (λ m. m)
-              (λ m. no_both l (ap (λ (v : Thread). v.listed) (T.no_thread_lem n m)));
+              (λ m. no_both l (ap (λ (v : Thread). v.listed) (T.thread_unmade n m)));
         }
 
     token_fits : (k : ℕ) → TokenFits x y k (token_at t k)

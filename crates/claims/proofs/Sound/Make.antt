@@ -117,7 +117,7 @@ module _ (t : Tables) (S : Sound t) (j new : ℕ) (m : (job_at t j).made ≡ tru
       (λ c. on_job (λ v. child_of v i ≡ child_of (job_at t c) i) t new c (new_job j)
       (λ e. ne_eqb j i (λ x. a (sym x))
       ∙ sym (ap (λ (v : Job). child_of v i)
-      (T.no_job_lem c (ap (λ (x : ℕ). (job_at t x).made) e ∙ f)).0))
+      (T.job_unmade c (ap (λ (x : ℕ). (job_at t x).made) e ∙ f)).0))
       refl)
       (λ p. ap (λ (q : Process). member_of q i) (process_at_put_job t new (new_job j) p))
 
@@ -194,7 +194,7 @@ module _ (t : Tables) (S : Sound t) (j new : ℕ) (k : (job_at t j).killed ≡ f
             (λ p. on_process (λ q. member_of q i ≡ member_of (process_at t p) i) t new p (new_process j)
             (λ e. ne_eqb j i (λ y. eqb-false i j b (sym y))
             ∙ sym (ap (λ (q : Process). member_of q i)
-            (S.tree.no_process_lem p (ap (λ (y : ℕ). (process_at t y).made) e ∙ f)).0)) refl)) ∙ x));
+            (S.tree.process_unmade p (ap (λ (y : ℕ). (process_at t y).made) e ∙ f)).0)) refl)) ∙ x));
         exited_busy = λ p. by (p =? new)
             (λ c x y. no_both (ap (λ (z : ℕ). is_exited (process_at u z).status)
             (sym (eqb-true p new c)) ∙ x) (ap (λ (q : Process). is_exited q.status) process_new))
@@ -227,6 +227,6 @@ module _ (t : Tables) (S : Sound t) (p new : ℕ) (x : is_exited (process_at t p
             (λ i. on_thread (λ v. thread_of v q ≡ thread_of (thread_at t i) q) t new i (new_thread p)
             (λ e. ne_eqb p q (λ d. eqb-false q p c (sym d))
             ∙ sym (ap (λ (v : Thread). thread_of v q)
-            (S.tree.no_thread_lem i (ap (λ (d : ℕ). (thread_at t d).made) e ∙ f)))) refl)
+            (S.tree.thread_unmade i (ap (λ (d : ℕ). (thread_at t d).made) e ∙ f)))) refl)
             ∙ S.exited_busy q y z);
       }

@@ -41,12 +41,12 @@ module _ {t : Tables} (T : Tree t) where
   pub killed_made : (j : ℕ) → (job_at t j).killed ≡ true → (job_at t j).made ≡ true
   killed_made j k =
       by (job_at t j).made (λ m. m)
-      (λ m. no_both k (ap (λ (v : Job). v.killed) (T.no_job_lem j m).0))
+      (λ m. no_both k (ap (λ (v : Job). v.killed) (T.job_unmade j m).0))
 
   pub exited_made : (p : ℕ) → is_exited (process_at t p).status ≡ true → (process_at t p).made ≡ true
   exited_made p k =
       by (process_at t p).made (λ m. m)
-      (λ m. no_both k (ap (λ (q : Process). is_exited q.status) (T.no_process_lem p m).0))
+      (λ m. no_both k (ap (λ (q : Process). is_exited q.status) (T.process_unmade p m).0))
 
   -- a job that lists nothing has no listed child and no listed process
   pub empty_no_child : (j i : ℕ) → may_terminate t j ≡ true → (job_at t i).listed ≡ true

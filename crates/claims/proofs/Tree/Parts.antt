@@ -76,7 +76,7 @@ module _ {t : Tables} (T : Tree t) where
   pub good_job : (j : ℕ) → GoodJob t j (job_at t j) (own_at t j) (inherited_at t j)
   good_job j =
       record {
-        unmade = T.no_job_lem j;
+        unmade = T.job_unmade j;
         orphan_root = T.orphan_root j;
         parent_made = T.parent_made j;
         terminated_killed = T.terminated_killed j;
@@ -90,7 +90,7 @@ module _ {t : Tables} (T : Tree t) where
   pub good_process : (p : ℕ) → GoodProcess t (process_at t p) (fixed_at t p)
   good_process p =
       record {
-        unmade = T.no_process_lem p;
+        unmade = T.process_unmade p;
         job_made = T.job_made p;
         job_alive = T.job_alive p;
         on_list = T.process_listed p;
@@ -104,7 +104,7 @@ module _ {t : Tables} (T : Tree t) where
   pub good_thread : (n : ℕ) → GoodThread t (thread_at t n)
   good_thread n =
       record {
-        unmade = T.no_thread_lem n;
+        unmade = T.thread_unmade n;
         process_made = T.process_made n;
         process_alive = T.process_alive n;
         on_list = T.thread_listed n;
@@ -119,7 +119,7 @@ module _ {t : Tables} (T : Tree t) where
   pub good_token : (k : ℕ) → GoodToken t (token_at t k)
   good_token k =
       record {
-        unmade = T.no_token_lem k;
+        unmade = T.token_unmade k;
         held_made = T.held_made k;
         held_kind = T.held_kind k;
         task_made = T.task_made k;
@@ -132,10 +132,10 @@ pub tree_of : (t : Tables) → Sized t → (job_at t 0).made ≡ true → (job_a
 tree_of t s m o j p n k =
     record {
       sized = s;
-      no_job_lem = λ i. (j i).unmade;
-      no_process_lem = λ i. (p i).unmade;
-      no_thread_lem = λ i. (n i).unmade;
-      no_token_lem = λ i. (k i).unmade;
+      job_unmade = λ i. (j i).unmade;
+      process_unmade = λ i. (p i).unmade;
+      thread_unmade = λ i. (n i).unmade;
+      token_unmade = λ i. (k i).unmade;
       root_made = m;
       root_orphan = o;
       orphan_root = λ i. (j i).orphan_root;

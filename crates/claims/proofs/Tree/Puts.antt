@@ -59,7 +59,7 @@ pub child_made : {t : Tables} → Tree t → (j p : ℕ) → (job_at t j).parent
     → (job_at t j).made ≡ true
 child_made {t} T j p e =
     by (job_at t j).made (λ m. m)
-    (λ m. orphan≢child (ap (λ (v : Job). v.parent) (T.no_job_lem j m).0) e)
+    (λ m. orphan≢child (ap (λ (v : Job). v.parent) (T.job_unmade j m).0) e)
 
 -- a store that leaves jobs and processes, and what is a made thread
 pub kept_of : (t u : Tables) → ((j : ℕ) → job_at u j ≡ job_at t j)

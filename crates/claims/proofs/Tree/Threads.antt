@@ -1,5 +1,5 @@
 -- What each change of a thread leaves of its part of `Tree`. A change of a thread that is not Dead
--- is one law (`live-good`). Assumes nothing.
+-- is one law (`live_good`). Assumes nothing.
 use Prim.Native.Nat.{ℕ}
 use native.Mathlib.Omega.{arith}
 use mathlib.Core.Path.{◌≡◌, refl, sym, ap, ◌∙◌}
