@@ -25,6 +25,8 @@ GENERATED = {"statement", "close", "spec", "tie", "goal", "rules", "c"}
 CHOICE, NEW_CHOICE = "if◌then◌else◌", "if◌then◌otherwise◌"
 # A definition of proofs/ whose plain name a constructor has.
 OTHERWISE = {"foundIn": "search_found", "Waits-at": "WaitsAt"}
+# A lemma of `exceptionate`, where the constructor of its name is never named.
+APART = {"of-thread": "of_thread"}
 
 
 def files(top, ends):
@@ -83,9 +85,9 @@ def table(top):
         if not plain(old) or old in GENERATED:
             new = old
         else:
-            new = OTHERWISE.get(old, snake(old))
-            new = new + "_lem" if new in taken else new
-        if new in taken:
+            new = APART.get(old, OTHERWISE.get(old, snake(old)))
+            new = new + "_lem" if new in taken and old not in APART else new
+        if new in taken and old not in APART:
             sys.exit(f"respell: {taken[new]} and {old} would both be {new}")
         taken[new] = old
         if new != old:
