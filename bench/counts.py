@@ -90,8 +90,12 @@ def cost(data):
     return total, copied
 
 
+# A list that is empty reads and writes nothing: each begins with a call, so that what the first one brings is in both counts.
+FIRST = bytes([0x1b, 0])
+
+
 def measure(before, calls):
-    base, both = cost(before), cost(before + b"".join(calls))
+    base, both = cost(FIRST + before), cost(FIRST + before + b"".join(calls))
     # callgrind_annotate leaves out what is below 1%, so a difference of two counts may be a little below 0
     return [max(0.0, (b - a) / len(calls)) for a, b in zip(base, both)]
 
