@@ -19,26 +19,6 @@ pub struct Progress {
     pub going: bool,
 }
 
-fn least(a: usize, b: usize) -> usize
-    ensures { result ≡ min a b }
-{
-    if a < b { a } else { b }
-}
-
-// Moves the last `n` of the first `have` bytes to the front.
-fn shift(buf: &mut [u8], have: usize, n: usize)
-    requires { (n ≤ have) × (have ≤ length buf.old) }
-    ensures { take n buf.new ≡ take n (drop (have - n) buf.old) }
-{
-    let from = have - n;
-    let mut i: usize = 0;
-    while i < n {
-        let b = buf[from + i];
-        buf[i] = b;
-        i += 1;
-    }
-}
-
 // Calls the recorder on what is there: its lines are at the front of `out`, what it did not use at that of `buf`.
 pub fn advance(progress: Progress, buf: &mut [u8], out: &mut [u8]) -> Progress
     ensures advances { Advances
@@ -47,16 +27,13 @@ pub fn advance(progress: Progress, buf: &mut [u8], out: &mut [u8]) -> Progress
     ensures prefix_len { IsPrefixLen result.written out.new }
     ensures have_in_bounds { result.have ≤ length buf.new }
 {
-    let state = progress.state;
-    let have = least(progress.have, buf.len());
-    let r = recorder::feed(state, &buf[..have], out);
-    let left = have - r.consumed;
-    shift(buf, have, left);
-    let after = r.state;
+    let have = progress.have.min(buf.len());
+    let part = recorder::feed(progress.state, &buf[..have], out);
+    buf.copy_within(part.consumed..have, 0);
     Progress {
-        state: after,
-        have: left,
-        written: r.written,
-        going: !r.finished,
+        state: part.state,
+        have: have - part.consumed,
+        written: part.written,
+        going: !part.finished,
     }
 }

@@ -1,5 +1,7 @@
 -- A call by the records that it names: what each group of calls stands for, and what is read and stored for it.
-use Rattle.std.specs.Prelude.{ℕ, ◌%◌, ◌≡◌, Bool, false, not, List, ℤ, take}
+use Rattle.std.specs.Prelude.{ℕ, ◌%◌, ◌≡◌, Bool, false, not, List, ℤ, pos, Result, Ok, Err, take}
+use Rattle.error.specs.declared.Refusal.{Refusal}
+use Rattle.error.specs.Numbers.{number_of}
 use Rattle.laws.specs.Choice.{◌<?◌, ◌and◌, if◌then◌otherwise◌}
 use Rattle.laws.specs.Lists.{any}
 use Rattle.job_policy.specs.declared.BasicPolicy.{BasicPolicy}
@@ -11,22 +13,21 @@ use Rattle.record_process.specs.Process.{member_of}
 use Rattle.record_thread.specs.declared.Thread.{Thread}
 use Rattle.record_thread.specs.Thread.{FULL}
 use Rattle.record_token.specs.declared.SuspendToken.{SuspendToken}
+use Rattle.thread_lists.specs.declared.Each.{Each}
 use Rattle.thread_lists.specs.Each.{SUSPEND, RESUME}
 use Rattle.records.specs.declared.tables.Tables.{Tables}
 use Rattle.records.specs.Tables.{Sized, job_at, own_at, inherited_at, process_at, fixed_at, thread_at, token_at}
-use Rattle.records.specs.Tables.{put_job, put_own}
+use Rattle.records.specs.Tables.{put_job, put_own, put_process, put_thread}
 use Rattle.reply.specs.declared.Reply.{Reply}
 use Rattle.reply.specs.declared.Shown.{Shown}
 use Rattle.reply.specs.Reply.{answered, showing}
 use Rattle.lists.specs.Alone.{kills_alone}
-use Rattle.model.specs.Job.{at_or_above, kill_job}
+use Rattle.model.specs.Job.{at_or_above, exit_listed, kill_job}
 use Rattle.model.specs.ExceptionCalls.{bad_level}
 use Rattle.model.specs.Step.{Call, cmd01, cmd02, cmd03, cmd04, cmd05, cmd06, cmd07, cmd08, cmd09}
 use Rattle.model.specs.Step.{cmd0a, cmd0b, cmd0c, cmd0d, cmd0e, cmd0f, cmd10, cmd11, cmd12, cmd13}
 use Rattle.model.specs.Step.{cmd14, cmd15, cmd16, cmd17, cmd18, cmd19, cmd1a, cmd1b, cmd1c, cmd1d}
 use Rattle.model.specs.Step.{cmd1e, cmd1f, step}
-use Rattle.process.specs.declared.Exiting.{Exiting}
-use Rattle.process.specs.Process.{exited_in}
 use Rattle.suspend_token.specs.declared.Token.{Token}
 use Rattle.suspend_token.specs.SuspendToken.{token_in, Concerned}
 use Rattle.exceptionate.specs.declared.ChannelCall.{ChannelCall}
@@ -51,6 +52,8 @@ use Rattle.calls.specs.declared.TaskCall.{TaskCall}
 use Rattle.calls.specs.declared.TaskCall.TheVariants.{CreateToken, DropToken, Suspend, Resume}
 use Rattle.calls.specs.declared.TaskName.{TaskName}
 use Rattle.calls.specs.declared.JobMove.{JobMove}
+use Rattle.calls.specs.declared.Both.{Both}
+use Rattle.calls.specs.declared.Exiting.{Exiting}
 use Rattle.calls.specs.declared.Command.{Command}
 use Rattle.calls.specs.declared.Command.TheVariants.{NoCall, BadLevel, OnThread, OnPair, OnProcess, OnJob}
 use Rattle.calls.specs.declared.Command.TheVariants.{OnException, OnTask, Shows, CreateChild, CreateProcess}
@@ -132,6 +135,21 @@ StandsFor r x = (l : List BasicPolicy) → call_of r l ≡ x
 unfoldable pub policy_command : (job option count : ℕ) → Command
 policy_command job option count = if 4 <? count then NoCall otherwise OnJob (SetPolicy option count) job
 
+-- ---- A process and a thread --------------------------------------------------------------------------
+
+abbrev pub pair : Process → Thread → ℤ → Both
+pair q v answer = record { answer = answer; process = q; thread = v }
+
+-- both records stored where they were
+unfoldable pub both_moved : Tables → ℕ → ℕ → Both → Reply
+both_moved t p n m =
+    answered (put_thread (put_process t (p % 64) m.process) (n % 128) m.thread) m.answer
+
+-- the call f on process p and thread n, whose records are q and v, comes to m
+abbrev pub MovesBoth : (Tables → Reply) → ℕ → ℕ → Process → Thread → Both → Type 0
+MovesBoth f p n q v m =
+    (t : Tables) → process_at t (p % 64) ≡ q → thread_at t (n % 128) ≡ v → both_moved t p n m ≡ f t
+
 -- ---- A process, beside a job -------------------------------------------------------------------------
 
 -- is the job that is named at or above that of the process? no other call asks
@@ -143,6 +161,20 @@ above_in (ProcessChannel c debugger) t j q = false
 
 abbrev pub IsAbove : ProcessCall → List Job → ℕ → Process → Bool → Type 0
 IsAbove c jobs j q r = (t : Tables) → t.jobs ≡ jobs → r ≡ above_in c t j q
+
+abbrev pub exiting : Process → ℤ → Bool → Exiting
+exiting q answer exits = record { answer = answer; exits = exits; process = q }
+
+-- by the process after the call, and the outcome: `Ok true` where it exits
+abbrev pub exiting_by : Process → Result Bool Refusal → Exiting
+exiting_by q (Ok exits) = exiting q (pos 0) exits
+exiting_by q (Err refusal) = exiting q (number_of refusal) false
+
+-- a process that exits ends, or its threads are killed
+unfoldable pub exited_in : Tables → ℕ → Exiting → Reply
+exited_in t p m =
+    let u : Tables = put_process t (p % 64) m.process in
+    answered (if m.exits then exit_listed kill_job u (p % 64) otherwise u) m.answer
 
 abbrev pub OnProcesses : ProcessCall → (p job : ℕ) → Process → Job → Bool → Exiting → Type 0
 OnProcesses c p job q j above m =
@@ -162,6 +194,11 @@ alone_in (JobChannel c debugger) jobs processes j = false
 
 abbrev pub job_move : Job → JobPolicy → (kills : Bool) → ℤ → JobMove
 job_move v own kills answer = record { answer = answer; kills = kills; job = v; own = own }
+
+-- a kill, which says whether it reaches further
+unfoldable pub kill_move : Job → JobPolicy → Result Bool Refusal → JobMove
+kill_move v own (Ok further) = job_move v own further (pos 0)
+kill_move v own (Err e) = job_move v own false (number_of e)
 
 unfoldable pub job_moved : Tables → ℕ → JobMove → Reply
 job_moved t j m =
@@ -186,7 +223,7 @@ task_of Suspend kind n k = task_name kind n
 task_of Resume kind n k = task_name kind n
 
 -- what is done to each thread, and the count that bars it
-unfoldable pub each_of : TaskCall → ℕ
+unfoldable pub each_of : TaskCall → Each
 each_of CreateToken = SUSPEND
 each_of DropToken = RESUME
 each_of Suspend = SUSPEND

@@ -2,30 +2,31 @@
 // specs/Calls.antt says which bytes stand for which call, specs/Groups.antt what a group means.
 #![tactic(auto)]
 
-ghost use Rattle.std.specs.Prelude.{◌≡◌, false};
+ghost use Rattle.std.specs.Prelude.{◌≡◌, false, is_ok};
 ghost use Rattle.commands.specs.Commands.{fifteen_at};
+ghost use Rattle.error.specs.Numbers.{answer_of};
+ghost use Rattle.model.specs.JobCalls.{create_child};
 ghost use Rattle.model.specs.Step.{step};
-ghost use Rattle.thread.specs.Move.{finishing, Finishes};
-ghost use Rattle.thread.specs.Pair.{MovesBoth};
-ghost use Rattle.process.specs.Process.{exiting};
 ghost use Rattle.exception.specs.Raise.{Raises};
+ghost use Rattle.calls.specs.Made.{Makes};
 ghost use Rattle.calls.specs.Calls.{called, call_at};
 ghost use Rattle.calls.specs.Groups.{level_call, thread_call, pair_call, exception_call, call_of};
 ghost use Rattle.calls.specs.Groups.{StandsFor, policy_command};
-ghost use Rattle.calls.specs.Groups.{IsAbove, OnProcesses, alone_in, job_move, OnJobs};
+ghost use Rattle.calls.specs.Finishing.{finishing, Finishes};
+ghost use Rattle.calls.specs.Groups.{pair, MovesBoth, IsAbove, exiting, exiting_by, OnProcesses};
+ghost use Rattle.calls.specs.Groups.{alone_in, job_move, kill_move, OnJobs};
 ghost use Rattle.calls.specs.Groups.{task_of, each_of, OnTasks, Showing};
 
 use commands::{byte_at, half_at, value_at, word_at};
+use error::Refusal;
 use exceptionate::ChannelCall;
 use job_policy::{BasicPolicy, JobPolicy, TimerSlackPolicy};
-use process::Exiting;
 use record_job::Job;
 use record_process::Process;
 use record_thread::Thread;
 use record_token::SuspendToken;
 use reply::Shown;
 use suspend_token::Token;
-use thread::{Both, Finishing, Move};
 use thread_lists::Each;
 
 // 09 to 0c, 16 to 1a, and 12, 13 at level 2: on one thread.
@@ -175,40 +176,89 @@ pub fn command_of(s: &[u8]) -> Command
     }
 }
 
-fn moved(m: Move) -> Finishing
-    ensures { result ≡ finishing m.thread m.answer false }
+// What a call on a thread comes to. Where the thread finishes, its process is left with one thread less.
+#[derive(Drop)]
+pub struct Finishing {
+    pub answer: i64,
+    pub finishes: bool,
+    pub thread: Thread,
+}
+
+// An outcome of 0c, beside the thread as it left it: it finishes where that is accepted.
+fn ended(done: Result<(), Refusal>, thread: Thread) -> Finishing
+    ensures { result ≡ finishing thread (answer_of done) (is_ok done) }
 {
-    let v = m.thread;
     Finishing {
-        answer: m.answer,
+        answer: error::answer_of(done),
+        finishes: done.is_ok(),
+        thread,
+    }
+}
+
+// The same of the other calls, by which nothing finishes.
+fn settled(done: Result<(), Refusal>, thread: Thread) -> Finishing
+    ensures { result ≡ finishing thread (answer_of done) false }
+{
+    Finishing {
         finishes: false,
-        thread: v,
+        ..ended(done, thread)
     }
 }
 
 pub fn on_thread(c: ThreadCall, thread: u8, v: Thread) -> Finishing
     ensures { Finishes (λ t. step t (thread_call c thread)) thread v result }
 {
+    let mut w = v;
     match c {
-        ThreadCall::Start => moved(thread::start(thread, v)),
-        ThreadCall::Kill => moved(thread::kill(thread, v)),
-        ThreadCall::Exit => moved(thread::exit(thread, v)),
-        ThreadCall::Finish => thread::finish(thread, v),
-        ThreadCall::SetState(state) => moved(exceptionate::set_state(thread, v, state)),
-        ThreadCall::SetStrategy(strategy) => moved(exceptionate::set_strategy(thread, v, strategy)),
-        ThreadCall::GetProcessHandle => moved(exceptionate::get_process_handle(thread, v)),
-        ThreadCall::BeginWait(state) => moved(thread::begin_wait(thread, v, state)),
-        ThreadCall::PollWait(ready) => moved(thread::poll_wait(thread, v, ready)),
-        ThreadCall::ThreadChannel(call) => moved(exceptionate::on_thread(call, thread, v)),
+        ThreadCall::Start => settled(thread::start(thread, &mut w), w),
+        ThreadCall::Kill => settled(thread::kill(thread, &mut w), w),
+        ThreadCall::Exit => settled(thread::exit(thread, &mut w), w),
+        ThreadCall::Finish => ended(thread::finish(thread, &mut w), w),
+        ThreadCall::SetState(state) => settled(exceptionate::set_state(thread, &mut w, state), w),
+        ThreadCall::SetStrategy(strategy) => {
+            settled(exceptionate::set_strategy(thread, &mut w, strategy), w)
+        }
+        ThreadCall::GetProcessHandle => settled(exceptionate::get_process_handle(thread, v), w),
+        ThreadCall::BeginWait(state) => settled(thread::begin_wait(thread, &mut w, state), w),
+        ThreadCall::PollWait(ready) => settled(thread::poll_wait(thread, &mut w, ready), w),
+        ThreadCall::ThreadChannel(call) => settled(
+            exceptionate::on_thread(call, thread, &mut w),
+            w,
+        ),
     }
 }
 
-fn process_moved(m: process::Move) -> Exiting
-    ensures { result ≡ exiting m.process m.answer false }
+// What a call on a process comes to, with the process after it. Where it exits, the threads that it lists are to be
+// killed; it ends where it lists none.
+#[derive(Drop)]
+pub struct Exiting {
+    pub answer: i64,
+    pub exits: bool,
+    pub process: Process,
+}
+
+fn process_exits(q: Process, outcome: Result<bool, Refusal>) -> Exiting
+    ensures { result ≡ exiting_by q outcome }
 {
-    let q = m.process;
+    match outcome {
+        Ok(exits) => Exiting {
+            answer: 0,
+            exits,
+            process: q,
+        },
+        Err(refusal) => Exiting {
+            answer: refusal.number(),
+            exits: false,
+            process: q,
+        },
+    }
+}
+
+fn process_settled(q: Process, outcome: Result<(), Refusal>) -> Exiting
+    ensures { result ≡ exiting q (answer_of outcome) false }
+{
     Exiting {
-        answer: m.answer,
+        answer: error::answer_of(outcome),
         exits: false,
         process: q,
     }
@@ -229,24 +279,59 @@ pub fn is_above(c: ProcessCall, jobs: [Job; 32], job: u8, q: Process) -> bool
 pub fn on_process(c: ProcessCall, process: u8, job: u8, q: Process, j: Job, above: bool) -> Exiting
     ensures { OnProcesses c process job q j above result }
 {
+    let mut w = q;
     match c {
-        ProcessCall::ExitWith(code) => process::exit(process, q, code),
-        ProcessCall::KillProcess => process::kill(process, q),
-        ProcessCall::SetCritical(flag) => {
-            process_moved(process::set_critical_at_job(process, job, flag, q, j, above))
+        ProcessCall::ExitWith(code) => {
+            let exited = process::exit(process, &mut w, code);
+            process_exits(w, exited)
         }
-        ProcessCall::ProcessChannel(call, debugger) => process_moved(exceptionate::on_process(
-            call, debugger, process, q,
-        )),
+        ProcessCall::KillProcess => {
+            let killed = process::kill(process, &mut w);
+            process_exits(w, killed)
+        }
+        ProcessCall::SetCritical(flag) => {
+            let bound = process::set_critical_at_job(process, job, flag, &mut w, j, above);
+            process_settled(w, bound)
+        }
+        ProcessCall::ProcessChannel(call, debugger) => {
+            let done = exceptionate::on_process(call, debugger, process, &mut w);
+            process_settled(w, done)
+        }
+    }
+}
+
+// What a call on a process and a thread comes to, with the two after it.
+#[derive(Drop)]
+pub struct Both {
+    pub answer: i64,
+    pub process: Process,
+    pub thread: Thread,
+}
+
+fn both_settled(q: Process, v: Thread, outcome: Result<(), Refusal>) -> Both
+    ensures { result ≡ pair q v (answer_of outcome) }
+{
+    Both {
+        answer: error::answer_of(outcome),
+        process: q,
+        thread: v,
     }
 }
 
 pub fn on_pair(c: PairCall, process: u8, thread: u8, q: Process, v: Thread) -> Both
     ensures { MovesBoth (λ t. step t (pair_call c process thread)) process thread q v result }
 {
+    let mut p = q;
+    let mut w = v;
     match c {
-        PairCall::StartProcess => process::start(process, thread, q, v),
-        PairCall::CreateThread => thread::create_with_ext(process, thread, q, v),
+        PairCall::StartProcess => {
+            let started = process::start(process, thread, &mut p, &mut w);
+            both_settled(p, w, started)
+        }
+        PairCall::CreateThread => {
+            let created = thread::create_with_ext(process, thread, q, &mut w);
+            both_settled(q, w, created)
+        }
     }
 }
 
@@ -300,14 +385,15 @@ pub fn task_of(c: TaskCall, kind: u8, name: u8, k: SuspendToken) -> TaskName
     }
 }
 
-pub fn each_of(c: TaskCall) -> u8
+#[tactic(auto, unfolding(crate::specs::Groups::each_of))]
+pub fn each_of(c: TaskCall) -> Each
     ensures { result ≡ each_of c }
 {
     match c {
-        TaskCall::CreateToken => Each::SUSPEND,
-        TaskCall::DropToken => Each::RESUME,
-        TaskCall::Suspend => Each::SUSPEND,
-        TaskCall::Resume => Each::RESUME,
+        TaskCall::CreateToken => Each::Suspend,
+        TaskCall::DropToken => Each::Resume,
+        TaskCall::Suspend => Each::Suspend,
+        TaskCall::Resume => Each::Resume,
     }
 }
 
@@ -332,6 +418,35 @@ pub fn on_task(
     }
 }
 
+// What 01 leaves under the new name, as the recorder stores it.
+#[derive(Drop)]
+pub struct Made {
+    pub answer: i64,
+    pub job: Job,
+    pub inherited: JobPolicy,
+}
+
+pub fn create_child(
+    job: u8,
+    new: u8,
+    j: Job,
+    own: JobPolicy,
+    inherited: JobPolicy,
+    w: Job,
+    held: JobPolicy,
+) -> Made
+    ensures { Makes (λ t. create_child t job new) job new j own inherited w held result }
+{
+    let mut v = w;
+    let mut kept = held;
+    let done = job::create_child(job, new, j, own, inherited, &mut v, &mut kept);
+    Made {
+        answer: error::answer_of(done),
+        job: v,
+        inherited: kept,
+    }
+}
+
 // Whether a kill stays with the job, or whether it lists nothing.
 pub fn stands_alone(c: JobCall, jobs: [Job; 32], processes: [Process; 64], job: u8) -> bool
     ensures { result ≡ alone_in c jobs processes job }
@@ -352,39 +467,44 @@ pub struct JobMove {
     pub own: JobPolicy,
 }
 
-fn job_killed(m: job::Killing, own: JobPolicy) -> JobMove
-    ensures { result ≡ job_move m.job own m.kills m.answer }
+// A kill; where it reaches further, it is the cascade's.
+fn job_killed(v: Job, own: JobPolicy, outcome: Result<bool, Refusal>) -> JobMove
+    ensures { result ≡ kill_move v own outcome }
 {
-    let v = m.job;
-    JobMove {
-        answer: m.answer,
-        kills: m.kills,
-        job: v,
-        own: own,
+    match outcome {
+        Ok(kills) => JobMove {
+            answer: 0,
+            kills: kills,
+            job: v,
+            own: own,
+        },
+        Err(refusal) => JobMove {
+            answer: refusal.number(),
+            kills: false,
+            job: v,
+            own: own,
+        },
     }
 }
 
-fn job_set(m: job::Move) -> JobMove
-    ensures { result ≡ job_move m.job m.own false m.answer }
+fn job_set(v: Job, own: JobPolicy, outcome: Result<(), Refusal>) -> JobMove
+    ensures { result ≡ job_move v own false (answer_of outcome) }
 {
-    let v = m.job;
-    let own = m.own;
     JobMove {
-        answer: m.answer,
+        answer: error::answer_of(outcome),
         kills: false,
         job: v,
         own: own,
     }
 }
 
-fn job_moved(m: exceptionate::JobMove, own: JobPolicy) -> JobMove
-    ensures { result ≡ job_move m.job own false m.answer }
+fn job_settled(j: Job, own: JobPolicy, done: Result<(), Refusal>) -> JobMove
+    ensures { result ≡ job_move j own false (answer_of done) }
 {
-    let v = m.job;
     JobMove {
-        answer: m.answer,
+        answer: error::answer_of(done),
         kills: false,
-        job: v,
+        job: j,
         own: own,
     }
 }
@@ -401,21 +521,30 @@ pub fn on_job(
     ensures { OnJobs c job policies j own inherited alone result }
 {
     match c {
-        JobCall::KillJob => job_killed(job::kill(job, j, alone), own),
+        JobCall::KillJob => {
+            let mut v = j;
+            let done = job::kill(job, &mut v, alone);
+            job_killed(v, own, done)
+        }
         JobCall::SetPolicy(option, count) => {
-            job_set(job::set_policy(job, option, count, policies, j, own, inherited, alone))
+            let mut set = own;
+            let done = job::set_policy(job, option, count, policies, j, &mut set, inherited, alone);
+            job_set(j, set, done)
         }
         JobCall::SetSlack(amount, mode) => {
             let policy = TimerSlackPolicy {
                 slack: amount,
                 mode: mode,
             };
-            job_set(job::set_policy_timer_slack(job, policy, j, own, alone))
+            let mut v = j;
+            let done = job::set_policy_timer_slack(job, policy, &mut v, alone);
+            job_set(v, own, done)
         }
-        JobCall::JobChannel(call, debugger) => job_moved(
-            exceptionate::on_job(call, debugger, job, j),
-            own,
-        ),
+        JobCall::JobChannel(call, debugger) => {
+            let mut w = j;
+            let done = exceptionate::on_job(call, debugger, job, &mut w);
+            job_settled(w, own, done)
+        }
     }
 }
 

@@ -1,64 +1,34 @@
 -- A process that exits, over the tables in place.
---     stops_listed, ends_listed    its threads are killed, or it ends
---     ends_alone_lem, ends_here_lem        its end stays with its record
+--     ends_alone_lem, ends_here_lem    its end stays with its record
 -- Assumes nothing.
+use Rattle.std.proofs.Common.{Some}
+use Rattle.std.proofs.Common.{Option, None}
 use Prim.Native.Nat.{ℕ, ◌%◌}
 use mathlib.Core.Path.{◌≡◌, refl, sym, ap, ◌∙◌}
 use mathlib.Core.Bool.{true, false}
-use mathlib.Core.List.{List, [], ◌∷◌}
 use borrow.Author.Tests.{leb-false}
-use Rattle.laws.specs.Choice.{◌≤?◌, ◌and◌, ◌or◌, if◌then◌otherwise◌}
+use Rattle.laws.specs.Choice.{◌≤?◌, ◌and◌, if◌then◌otherwise◌}
 use Rattle.laws.specs.Lists.{any}
 use Rattle.laws.proofs.Cases.{by, no_both}
-use Rattle.laws.proofs.Flow.{and_stops, yes, no}
+use Rattle.laws.proofs.Flow.{and_stops, no}
 use Rattle.record_job.specs.declared.Job.{Job}
 use Rattle.record_process.specs.declared.Process.{Process}
 use Rattle.record_process.specs.declared.Critical.{Critical}
-use Rattle.record_process.specs.declared.Critical.TheVariants.{Free, To}
 use Rattle.record_process.specs.Process.{is_critical, ended}
-use Rattle.record_thread.specs.declared.Thread.{Thread}
 use Rattle.record_thread.specs.Thread.{thread_of}
-use Rattle.thread_lists.specs.Each.{KILL, one_of, each_in, bars, each_unless}
-use Rattle.thread_lists.proofs.Unless.{changed_is, some_is}
 use Rattle.records.specs.declared.tables.Tables.{Tables}
-use Rattle.records.specs.Tables.{job_at, process_at, put_process, with_threads}
+use Rattle.records.specs.Tables.{job_at, process_at, put_process}
 use Rattle.records.proofs.Kept.{job_at_lem}
-use Rattle.model.specs.Job.{may_terminate, lists_thread, stop_in, stop_threads, kill_job, exit_listed, end_process}
+use Rattle.model.specs.Job.{may_terminate, lists_thread, kill_job, exit_listed, end_process}
 use Rattle.model.proofs.Steps.{end_free}
 use Rattle.model.proofs.Upward.{unlist_stays}
 use Rattle.cascade.specs.Ends.{ends_alone, ends_here}
 
--- ---- Its threads -----------------------------------------------------------------------------------
-
--- nothing bars a kill
-no_bar : (p : ℕ) (l : List Thread) → any (λ v. thread_of v p and bars KILL v) l ≡ false
-unfolding any bars ◌or◌ ◌and◌ if◌then◌otherwise◌
-no_bar p [] = refl
-no_bar p (v ∷ l) = by (thread_of v p) (λ e. rw e (no_bar p l)) (λ e. rw e (no_bar p l))
-
-module _ (t : Tables) (p : ℕ) where
-  listed_is : (each_unless KILL p t.threads).some ≡ lists_thread t p
-  unfolding lists_thread
-  listed_is = some_is KILL p t.threads (no_bar p t.threads)
-
-  kills_each : with_threads t (each_unless KILL p t.threads).threads ≡ stop_threads t p
-  unfolding stop_threads stop_in one_of each_in if◌then◌otherwise◌
-  kills_each = ap (with_threads t) (changed_is KILL p t.threads (no_bar p t.threads))
-
-  pub stops_listed : (each_unless KILL p t.threads).some ≡ true →
-      with_threads t (each_unless KILL p t.threads).threads ≡ exit_listed kill_job t p
-  unfolding exit_listed
-  stops_listed e = yes _ _ (sym listed_is ∙ e) kills_each
-
-  pub ends_listed : (each_unless KILL p t.threads).some ≡ false → end_process t p ≡ exit_listed kill_job t p
-  unfolding exit_listed end_process
-  ends_listed e = no _ _ (sym listed_is ∙ e) refl
-
 -- ---- Its end -----------------------------------------------------------------------------------------
 
-unbound : (b : Critical) → is_critical b ≡ false → b ≡ Free
-unbound Free e = refl
-unbound (To j nonzero) e = no_both refl e
+unbound : (b : Option Critical) → is_critical b ≡ false → b ≡ None
+unbound None e = refl
+unbound (Some b) e = no_both refl e
 
 lives_on : (t : Tables) (j p : ℕ) (a : Process) → (job_at t j).killed ≡ false →
     may_terminate (put_process t p a) j ≡ false

@@ -1,82 +1,78 @@
 // cascade: killing a job, exiting a process and ending a process, which call one another. Follows job.rs and
-// process.rs. Each of the three has one local of the tables and indexes none: the deepest cascade stays small on the
-// stack.
+// process.rs. Each of the three has one local of the tables, and lends and indexes none: the deepest cascade stays small
+// on the stack. What they ask of a table stands in a function that is not inlined, by value, since a lent table would
+// cost each frame of the cycle two more locals.
 #![tactic(auto)]
 
-ghost use Rattle.std.specs.Prelude.{◌≡◌, ◌≤◌};
+ghost use Rattle.std.specs.Prelude.{◌≡◌};
 ghost use Rattle.record_job.specs.Job.{child_of};
 ghost use Rattle.record_process.specs.Process.{member_of};
-ghost use Rattle.lists.specs.Next.{next};
+ghost use Rattle.listed.specs.Next.{next_in};
 ghost use Rattle.model.specs.Job.{is_live_job, is_live_process, kill_job, exit_process, end_process};
 ghost use Rattle.model.specs.Job.{lists_thread, stop_threads, exit_listed, remove_thread};
 ghost use Rattle.cascade.specs.Ends.{ends_alone, ends_here};
 
+use listed::{any_on, next_on};
 use record_job::Job;
-use record_process::{Critical, Process, Status};
+use record_process::{Process, Status};
 use record_thread::Thread;
 use records::reading::{job_at, process_at};
 use records::tables::Tables;
-use thread_lists::Each;
+use thread_lists::{Each, each_thread};
 
 pub mod terminate;
 
 // -- Tests ---------------------------------------------------------------------------------
 
 // Whether a job is made and not killed.
+#[tactic(auto, using(laws::proofs::Flow::branches), unfolding(model::specs::Job::is_live_job))]
 fn is_live_job(v: Job) -> bool
     ensures { result ≡ is_live_job v }
 {
-    if v.made {
-        return !v.killed;
-    }
-    false
+    v.made && !v.killed
 }
 
 // Whether a process is made and not Exited.
+#[tactic(auto, using(laws::proofs::Flow::branches), unfolding(model::specs::Job::is_live_process))]
 fn is_live_process(v: Process) -> bool
     ensures { result ≡ is_live_process v }
 {
-    let status = v.status;
-    if v.made {
-        return !status.is_exited();
-    }
-    false
+    v.made && !v.status.is_exited()
 }
 
 // Whether process p lists a thread.
+#[tactic(auto, unfolding(model::specs::Job::lists_thread))]
+#[inline(never)]
 fn lists_thread(t: Tables, p: u8) -> bool
     ensures { result ≡ lists_thread t p }
 {
-    let threads = t.threads;
-    thread_lists::lists_thread(threads, p)
+    any_on(&t.threads, p)
 }
 
-// The next child of job j from a name on, and its next process: 32 and 64 where there is none.
-fn child_from(t: Tables, j: u8, from: u8) -> u8
-    ensures value { result ≡ next (λ v. child_of v j) t.jobs from }
-    ensures upper_bound { from ≤ 32 → result ≤ 32 }
+// The next child of job j from a name on.
+#[inline(never)]
+fn next_child(t: Tables, j: u8, from: u8) -> Option<u8>
+    ensures { result ≡ next_in (λ v. child_of v j) t.jobs from }
 {
-    let jobs = t.jobs;
-    lists::child_from(jobs, j, from)
+    next_on(&t.jobs, j, from)
 }
 
-fn process_from(t: Tables, j: u8, from: u8) -> u8
-    ensures value { result ≡ next (λ q. member_of q j) t.processes from }
-    ensures upper_bound { from ≤ 64 → result ≤ 64 }
+// Its next process.
+#[inline(never)]
+fn next_process(t: Tables, j: u8, from: u8) -> Option<u8>
+    ensures { result ≡ next_in (λ q. member_of q j) t.processes from }
 {
-    let processes = t.processes;
-    lists::process_from(processes, j, from)
+    next_on(&t.processes, j, from)
 }
 
 // -- The cascade ---------------------------------------------------------------------------
 
 // Every thread that process p lists is killed.
+#[inline(never)]
 fn stop_threads(mut t: Tables, p: u8) -> Tables
     ensures { result ≡ stop_threads t p }
 {
-    let threads = t.threads;
-    let stopped = thread_lists::each_thread(threads, p, Each::KILL);
-    t.threads = stopped;
+    t.threads = each_thread(t.threads, p, Each::Kill);
     t
 }
 
@@ -93,15 +89,15 @@ pub fn kill_job(mut t: Tables, j: u8) -> Tables
     if terminate::job_empty(t, j) {
         return terminate::terminate_job(t, j);
     }
-    let mut c = child_from(t, j, 0);
-    while c < 32 {
+    let mut child = 0;
+    while let Some(c) = next_child(t, j, child) {
         t = kill_job(t, c);
-        c = child_from(t, j, c + 1);
+        child = c + 1;
     }
-    let mut p = process_from(t, j, 0);
-    while p < 64 {
+    let mut member = 0;
+    while let Some(p) = next_process(t, j, member) {
         t = exit_process(t, p, Process::KILL_CODE);
-        p = process_from(t, j, p + 1);
+        member = p + 1;
     }
     t
 }
@@ -128,15 +124,14 @@ fn end_process(mut t: Tables, p: u8) -> Tables
     ensures { result ≡ end_process t p }
 {
     let process = process_at(t, p);
-    let status = process.status;
     let critical = process.critical;
-    let code = status.code();
+    let code = process.status.code();
     t = terminate::unlist_process(t, p);
     match critical {
-        Critical::Free => t,
-        Critical::To { job, nonzero } => {
-            if record_process::binding_acts(nonzero, code) {
-                kill_job(t, job)
+        None => t,
+        Some(binding) => {
+            if binding.acts(code) {
+                kill_job(t, binding.job)
             } else {
                 t
             }
@@ -145,32 +140,25 @@ fn end_process(mut t: Tables, p: u8) -> Tables
 }
 
 // Whether the end of a process stays with its record; j is its job. It is bound to none, and no job terminates with it.
+#[tactic(auto, using(laws::proofs::Flow::branches), unfolding(crate::specs::Ends::ends_alone))]
 fn ends_alone(q: Process, j: Job) -> bool
     ensures { result ≡ ends_alone q j }
 {
-    let critical = q.critical;
-    match critical {
-        Critical::Free => !j.killed,
-        Critical::To { job: _, nonzero: _ } => false,
-    }
+    !q.is_critical() && !j.killed
 }
 
 // The same of process p that is marked Exited, over the threads: it ends at once if it lists none.
+#[tactic(auto, using(laws::proofs::Flow::branches), unfolding(crate::specs::Ends::ends_here))]
 pub fn ends_here(p: u8, q: Process, j: Job, threads: [Thread; 128]) -> bool
     ensures { result ≡ ends_here p q j threads }
 {
-    if thread_lists::lists_thread(threads, p) {
-        return false;
-    }
-    if 32 <= q.job {
-        return false;
-    }
-    ends_alone(q, j)
+    !any_on(&threads, p) && q.job < 32 && ends_alone(q, j)
 }
 
 // -- Threads -------------------------------------------------------------------------------
 
 // `Process::remove_thread`: the process ends when its last listed thread finishes.
+#[tactic(auto, using(laws::proofs::Flow::branches))]
 pub fn remove_thread(t: Tables, p: u8) -> Tables
     ensures { result ≡ remove_thread t p }
 {
@@ -181,6 +169,7 @@ pub fn remove_thread(t: Tables, p: u8) -> Tables
 }
 
 // A process marked Exited: its threads are killed, or it ends.
+#[tactic(auto, using(laws::proofs::Flow::branches), unfolding(model::specs::Job::exit_listed, model::specs::Job::end_process))]
 pub fn exit_listed(t: Tables, p: u8) -> Tables
     ensures { result ≡ exit_listed kill_job t p }
 {

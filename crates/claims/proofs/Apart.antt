@@ -2,6 +2,7 @@
 -- J and Q are the set's jobs and processes; its threads are those of its processes. The set is
 -- closed under lists, owners and bindings, and the job above its top, if any, is not killed.
 -- Assumes nothing.
+use Rattle.std.proofs.Common.{Option, Some}
 use Prim.Native.Nat.{ℕ}
 use mathlib.Core.Path.{◌≡◌, refl, sym, ap, ◌∙◌, subst}
 use mathlib.Core.Bool.{Bool, true, false}
@@ -11,14 +12,11 @@ use lib.IntN.{ℤ}
 use Rattle.laws.specs.Choice.{◌=?◌}
 use Rattle.laws.proofs.Cases.{by, no_both, and_left, and_right, and_true}
 use Rattle.laws.proofs.Flow.{second}
-use Rattle.record_job.specs.declared.Parent.{Parent}
-use Rattle.record_job.specs.declared.Parent.TheVariants.{ChildOf}
 use Rattle.record_job.specs.declared.Job.{Job}
 use Rattle.record_job.specs.Job.{killed, terminated, is_parent, child_of}
-use Rattle.record_process.specs.declared.Critical.TheVariants.{To}
 use Rattle.record_process.specs.declared.Status.TheVariants.{Exited}
 use Rattle.record_process.specs.declared.Process.{Process}
-use Rattle.record_process.specs.Process.{with_status, ended, member_of}
+use Rattle.record_process.specs.Process.{critical_to, with_status, ended, member_of}
 use Rattle.record_thread.specs.declared.Thread.{Thread}
 use Rattle.record_thread.specs.Thread.{thread_of}
 use Rattle.records.specs.declared.tables.Tables.{Tables}
@@ -36,10 +34,10 @@ use Rattle.model.proofs.Keeps.{kill_job_keeps, exit_process_keeps, end_process_k
 pub record Closed (t : Tables) (J Q : ℕ → Type 0) : Type 0 where
   pub child : (j c : ℕ) → J j → child_of (job_at t c) j ≡ true → J c
   pub member : (j p : ℕ) → J j → member_of (process_at t p) j ≡ true → Q p
-  pub above : (j p : ℕ) → J j → (job_at t j).parent ≡ ChildOf p
+  pub above : (j p : ℕ) → J j → (job_at t j).parent ≡ Some p
       → J p ⊎ ((J p → ⊥) × ((job_at t p).killed ≡ false))
   pub home : (p : ℕ) → Q p → J (process_at t p).job
-  pub bound_to : (p j : ℕ) (nonzero : Bool) → Q p → (process_at t p).critical ≡ To j nonzero → J j
+  pub bound_to : (p j : ℕ) (nonzero : Bool) → Q p → (process_at t p).critical ≡ critical_to j nonzero → J j
 
 -- u is t after stores within the set
 pub record Apart (t : Tables) (J Q : ℕ → Type 0) (u : Tables) : Type 0 where
@@ -131,7 +129,7 @@ module _ (t : Tables) (J Q : ℕ → Type 0) where
   unfolding child_of
   listed_child u j c x e =
       and_true (x.listed c (and_left (job_at u c).listed _ e))
-      (ap (λ (q : Parent). is_parent q j) (sym (x.parents c)) ∙ and_right (job_at u c).listed _ e)
+      (ap (λ (q : Option ℕ). is_parent q j) (sym (x.parents c)) ∙ and_right (job_at u c).listed _ e)
 
   listed_member : (u : Tables) (j p : ℕ) → Apart t J Q u → member_of (process_at u p) j ≡ true
       → member_of (process_at t p) j ≡ true
@@ -156,7 +154,7 @@ module _ (t : Tables) (J Q : ℕ → Type 0) where
 
   module _ (k : Closed t J Q) where
     -- a job above the set is not killed, so it does not terminate
-    goes_above : (u : Tables) (j p : ℕ) → J j → Apart t J Q u → (job_at u j).parent ≡ ChildOf p
+    goes_above : (u : Tables) (j p : ℕ) → J j → Apart t J Q u → (job_at u j).parent ≡ Some p
         → may_terminate (put_job u j (terminated (job_at u j))) p ≡ true → J p
     goes_above u j p a x e m =
         ⊎_elim (λ h. h)

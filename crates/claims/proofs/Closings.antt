@@ -1,6 +1,7 @@
 -- An exception is over after at most 36 closings: `closings`. A closing lowers the exception's
 -- place (`Lower`), no other call moves it (`Others`), and no call moves a job to another parent
 -- (`Olds`), so one rank serves for all the calls. Assumes nothing.
+use Rattle.std.proofs.Common.{Some}
 use Prim.Native.Nat.{ℕ, ◌<◌}
 use native.Mathlib.Omega.{arith}
 use mathlib.Core.Path.{◌≡◌, refl, sym, ap, ◌∙◌, subst}
@@ -12,7 +13,6 @@ use Rattle.record_exception.specs.declared.Place.TheVariants.{Debugger, OwnThrea
 use Rattle.record_exception.specs.declared.Place.TheVariants.{SecondChance, OfJob, OfJobDebugger}
 use Rattle.record_exception.specs.declared.Place.TheVariants.{Exiting}
 use Rattle.record_exception.specs.declared.Exception.{Exception}
-use Rattle.record_job.specs.declared.Parent.TheVariants.{ChildOf}
 use Rattle.record_job.specs.declared.Job.{Job}
 use Rattle.record_job.specs.Job.{no_job, new_job}
 use Rattle.record_thread.specs.declared.Waiting.TheVariants.{InException}
@@ -106,7 +106,7 @@ olds_does {t} (finishes n e m s w) = unfold finish_thread in (
 -- ---- One rank for all the calls ----------------------------------------------------------------
 
 record Ranks (r : ℕ → ℕ) (t : Tables) : Type 0 where
-  falls : (j p : ℕ) → (job_at t j).parent ≡ ChildOf p → r p < r j
+  falls : (j p : ℕ) → (job_at t j).parent ≡ Some p → r p < r j
   small : (j : ℕ) → (job_at t j).made ≡ true → r j < 32
 
 ranks_of : {t : Tables} (S : Sound t) → Ranks S.rank t
@@ -122,7 +122,7 @@ ranks_of {t} S =
     }
 
 -- a job with a parent is made
-child_made : {t : Tables} → Tree t → (j p : ℕ) → (job_at t j).parent ≡ ChildOf p
+child_made : {t : Tables} → Tree t → (j p : ℕ) → (job_at t j).parent ≡ Some p
     → (job_at t j).made ≡ true
 child_made {t} T j p e =
     by (job_at t j).made (λ m. m)

@@ -1,13 +1,14 @@
 -- The codes of a call: a code that was there stays, and a new one is of those that the call may
 -- give
 -- (`Codes E t u`: E p z, process p may end with z). A cascade gives -1028 only. Assumes nothing.
+use Rattle.std.proofs.Common.{Some}
+use Rattle.std.proofs.Common.{Option, None}
 use Prim.Native.Nat.{ℕ}
 use mathlib.Core.Path.{◌≡◌, refl, sym, ap, ◌∙◌, subst}
 use mathlib.Core.Bool.{true, false}
 use lib.IntN.{ℤ}
 use Rattle.laws.proofs.Cases.{by, no_both, ite_on}
 use Rattle.record_process.specs.declared.Critical.{Critical}
-use Rattle.record_process.specs.declared.Critical.TheVariants.{Free, To}
 use Rattle.record_process.specs.declared.Status.{Status}
 use Rattle.record_process.specs.declared.Status.TheVariants.{Init, Running, Exited}
 use Rattle.record_process.specs.declared.Process.{Process}
@@ -151,12 +152,12 @@ module _ {E : ℕ → ℤ → Type 0} (k : (p : ℕ) → E p KILL_CODE) (t : Tab
       (codes_same u u (λ q. refl))))
       (λ l. codes_same t t (λ q. refl)))
 
-  codes_bound : (b : Critical) (code : ℤ) (u : Tables) → Codes E t u
+  codes_bound : (b : Option Critical) (code : ℤ) (u : Tables) → Codes E t u
       → Codes E t (kill_bound kill_job b code u)
   unfolding kill_bound
-  codes_bound Free code u K = K
-  codes_bound (To j nonzero) code u K =
-      ite_on (Codes E t) _ _ _ (λ e. codes_then k K (codes_kill u j)) (λ e. K)
+  codes_bound None code u K = K
+  codes_bound (Some b) code u K =
+      ite_on (Codes E t) _ _ _ (λ e. codes_then k K (codes_kill u b.job)) (λ e. K)
 
   codes_unlist : (process_at t p).made ≡ true
       → (is_exited (process_at t p).status ≡ false → E p (code_of (process_at t p).status))

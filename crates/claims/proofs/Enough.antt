@@ -1,13 +1,12 @@
 -- 32 steps upward are enough: where every job has a rank above its parent's, more steps than the
 -- rank of the job at which they start change nothing. Assumes nothing.
+use Rattle.std.proofs.Common.{Option, Some, None}
 use Prim.Native.Nat.{ℕ, zero, suc, ◌<◌}
 use native.Mathlib.Omega.{arith}
 use mathlib.Core.Path.{◌≡◌, refl, sym, ◌∙◌}
 use mathlib.Core.Bool.{Bool, false}
 use Rattle.laws.specs.Choice.{◌=?◌}
 use Rattle.laws.proofs.Cases.{ite_two}
-use Rattle.record_job.specs.declared.Parent.{Parent}
-use Rattle.record_job.specs.declared.Parent.TheVariants.{Orphan, ChildOf}
 use Rattle.record_job.specs.declared.Job.{Job}
 use Rattle.record_job.specs.Job.{terminated}
 use Rattle.records.specs.declared.tables.Tables.{Tables}
@@ -17,14 +16,14 @@ use Rattle.model.proofs.TaskTables.{keep_job}
 
 -- r ranks the jobs: a job's parent stands lower
 unfoldable pub Ranked : (ℕ → ℕ) → Tables → Type 0
-Ranked r t = (i p : ℕ) → (job_at t i).parent ≡ ChildOf p → r p < r i
+Ranked r t = (i p : ℕ) → (job_at t i).parent ≡ Some p → r p < r i
 
-on_parent_same : {A : Type 0} (q : Parent) (a : A) (k l : ℕ → A)
-    → ((p : ℕ) → q ≡ ChildOf p → k p ≡ l p)
+on_parent_same : {A : Type 0} (q : Option ℕ) (a : A) (k l : ℕ → A)
+    → ((p : ℕ) → q ≡ Some p → k p ≡ l p)
     → on_parent q a k ≡ on_parent q a l
 unfolding on_parent
-on_parent_same Orphan a k l h = refl
-on_parent_same (ChildOf p) a k l h = h p refl
+on_parent_same None a k l h = refl
+on_parent_same (Some p) a k l h = h p refl
 
 -- a store that keeps the parent keeps the ranks
 pub ranked_put_job : (r : ℕ → ℕ) (t : Tables) (j : ℕ) (v : Job) → v.parent ≡ (job_at t j).parent

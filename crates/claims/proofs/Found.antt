@@ -1,5 +1,6 @@
 -- What a lookup that succeeded says: the record is the one in the table, and it is made. And what
 -- a whole call leaves, by its guards: `After P r` is P of the reply's tables. Assumes nothing.
+use Rattle.std.proofs.Common.{Option, Some, None}
 use Prim.Native.Nat.{ℕ}
 use native.Mathlib.Omega.{arith}
 use mathlib.Core.Path.{◌≡◌, refl, ap}
@@ -21,12 +22,10 @@ use Rattle.reply.specs.declared.Reply.{Reply}
 use Rattle.reply.specs.Reply.{answered}
 use Rattle.records.specs.Tables.{job_at, process_at, thread_at, token_at, found_job, found_process}
 use Rattle.records.specs.Tables.{found_thread, found_token}
-use Rattle.records.specs.declared.owners.FoundTask.{FoundTask}
-use Rattle.records.specs.declared.owners.FoundTask.TheVariants.{NoTask, OldTask}
 use Rattle.records.specs.Owners.{found_task, level_of_thread, level_of_process, level_of_job, process_level}
 use Rattle.records.specs.Owners.{job_level}
-use Rattle.model.specs.Replies.{call, accept, old_job, old_process, old_thread, old_token}
-use Rattle.model.specs.Replies.{old_level, old_task, held_exception, job, process, thread}
+use Rattle.model.specs.Replies.{call, accept, present}
+use Rattle.model.specs.Replies.{held_exception, job, process, thread}
 use Rattle.model.specs.Replies.{token, task, exception}
 
 -- ---- Lookups ---------------------------------------------------------------------------------
@@ -39,63 +38,63 @@ found_inj {A} {v} {w} e = cc
 
 module _ (t : Tables) (i : ℕ) where
   pub job_is : (v : Job) → job t i ≡ found v → ((job_at t i).made ≡ true) × (job_at t i ≡ v)
-  unfolding old_job found_job
+  unfolding present found_job
   job_is v =
-      if_on (λ x. old_job x ≡ found v → ((job_at t i).made ≡ true) × (job_at t i ≡ v)) _ _ _
+      if_on (λ x. present x ≡ found v → ((job_at t i).made ≡ true) × (job_at t i ≡ v)) _ _ _
       (λ m e. (m, found_inj e)) (λ m e. missing≢found e)
 
   pub process_is : (q : Process) → process t i ≡ found q
       → ((process_at t i).made ≡ true) × (process_at t i ≡ q)
-  unfolding old_process found_process
+  unfolding present found_process
   process_is q =
-      if_on (λ x. old_process x ≡ found q → ((process_at t i).made ≡ true) ×
+      if_on (λ x. present x ≡ found q → ((process_at t i).made ≡ true) ×
       (process_at t i ≡ q)) _ _ _
       (λ m e. (m, found_inj e)) (λ m e. missing≢found e)
 
   pub thread_is : (v : Thread) → thread t i ≡ found v
       → ((thread_at t i).made ≡ true) × (thread_at t i ≡ v)
-  unfolding old_thread found_thread
+  unfolding present found_thread
   thread_is v =
-      if_on (λ x. old_thread x ≡ found v → ((thread_at t i).made ≡ true) × (thread_at t i ≡ v)) _ _ _
+      if_on (λ x. present x ≡ found v → ((thread_at t i).made ≡ true) × (thread_at t i ≡ v)) _ _ _
       (λ m e. (m, found_inj e)) (λ m e. missing≢found e)
 
   pub token_is : (v : SuspendToken) → token t i ≡ found v
       → ((token_at t i).held ≡ true) × (token_at t i ≡ v)
-  unfolding old_token found_token
+  unfolding present found_token
   token_is v =
-      if_on (λ x. old_token x ≡ found v → ((token_at t i).held ≡ true) × (token_at t i ≡ v)) _ _ _
+      if_on (λ x. present x ≡ found v → ((token_at t i).held ≡ true) × (token_at t i ≡ v)) _ _ _
       (λ m e. (m, found_inj e)) (λ m e. missing≢found e)
 
-  pub task_is : (kind : ℕ) (v : Unit) → task t kind i ≡ found v → found_task t kind i ≡ OldTask
-  unfolding old_task
+  pub task_is : (kind : ℕ) (v : Unit) → task t kind i ≡ found v → found_task t kind i ≡ Some tt
+  unfolding present
   task_is kind v e = go (found_task t kind i) e
     where
-      go : (f : FoundTask) → old_task f ≡ found v → f ≡ OldTask
-      go NoTask e = missing≢found e
-      go OldTask e = refl
+      go : (f : Option Unit) → present f ≡ found v → f ≡ Some tt
+      go None e = missing≢found e
+      go (Some v) e = refl
 
-  pub thread_level_is : (l : Level) → old_level (level_of_thread (found_thread t i)) ≡ found l
+  pub thread_level_is : (l : Level) → present (level_of_thread (found_thread t i)) ≡ found l
       → ((thread_at t i).made ≡ true) × ((thread_at t i).level2 ≡ l)
-  unfolding old_level level_of_thread found_thread
+  unfolding present level_of_thread found_thread
   thread_level_is l =
-      if_on (λ x. old_level (level_of_thread x) ≡ found l
+      if_on (λ x. present (level_of_thread x) ≡ found l
       → ((thread_at t i).made ≡ true) × ((thread_at t i).level2 ≡ l)) _ _ _
       (λ m e. (m, found_inj e)) (λ m e. missing≢found e)
 
   module _ (level : ℕ) (l : Level) where
-    pub process_level_is : old_level (level_of_process (found_process t i) level) ≡ found l
+    pub process_level_is : present (level_of_process (found_process t i) level) ≡ found l
         → ((process_at t i).made ≡ true) × (process_level (process_at t i) level ≡ l)
-    unfolding old_level level_of_process found_process
+    unfolding present level_of_process found_process
     process_level_is =
-        if_on (λ x. old_level (level_of_process x level) ≡ found l
+        if_on (λ x. present (level_of_process x level) ≡ found l
         → ((process_at t i).made ≡ true) × (process_level (process_at t i) level ≡ l)) _ _ _
         (λ m e. (m, found_inj e)) (λ m e. missing≢found e)
 
-    pub job_level_is : old_level (level_of_job (found_job t i) level) ≡ found l
+    pub job_level_is : present (level_of_job (found_job t i) level) ≡ found l
         → ((job_at t i).made ≡ true) × (job_level (job_at t i) level ≡ l)
-    unfolding old_level level_of_job found_job
+    unfolding present level_of_job found_job
     job_level_is =
-        if_on (λ x. old_level (level_of_job x level) ≡ found l
+        if_on (λ x. present (level_of_job x level) ≡ found l
         → ((job_at t i).made ≡ true) × (job_level (job_at t i) level ≡ l)) _ _ _
         (λ m e. (m, found_inj e)) (λ m e. missing≢found e)
 

@@ -1,6 +1,7 @@
 -- A change that starts, stops and lists nothing: all jobs, processes and threads are made, listed,
 -- killed, terminated and Exited as before (`Quiet`). All stores but those of the cascade, of a
 -- thread that finishes and of a new name are so. Assumes nothing.
+use Rattle.std.proofs.Common.{Option}
 use Prim.Native.Nat.{ℕ}
 use mathlib.Core.Path.{◌≡◌, refl, ap, ap₂, ◌∙◌}
 use mathlib.Core.Bool.{Bool}
@@ -8,7 +9,6 @@ use mathlib.Core.List.{map}
 use lib.IntN.{ℤ}
 use Rattle.laws.specs.Choice.{◌and◌, ◌=?◌}
 use Rattle.job_policy.specs.declared.JobPolicy.{JobPolicy}
-use Rattle.record_job.specs.declared.Parent.{Parent}
 use Rattle.record_job.specs.declared.Job.{Job}
 use Rattle.record_job.specs.Job.{is_parent, child_of}
 use Rattle.record_process.specs.declared.Process.{Process}
@@ -27,7 +27,7 @@ use Rattle.claims.proofs.ThreadMaps.{thread_at_map, job_at_with_threads, process
 use Rattle.model.proofs.Lists.{job_empty_same, lists_thread_same}
 use Rattle.claims.proofs.Tree.Search.{Passed}
 
-abbrev pub job_key : Job → Bool × Bool × Bool × Bool × Parent
+abbrev pub job_key : Job → Bool × Bool × Bool × Bool × Option ℕ
 job_key v = (v.made, v.listed, v.killed, v.terminated, v.parent)
 
 abbrev pub process_key : Process → Bool × Bool × Bool × ℕ × Bool × ℤ

@@ -1,5 +1,6 @@
 -- What a search for a handler leaves, and where it ends: what each passing over of a level keeps,
 -- the search keeps, and it ends only at places that it may reach (`Passing`). Assumes nothing.
+use Rattle.std.proofs.Common.{Some, None}
 use Prim.Native.Nat.{ℕ, zero, suc}
 use native.Mathlib.Omega.{arith}
 use mathlib.Core.Path.{◌≡◌, subst}
@@ -11,13 +12,11 @@ use Rattle.record_exception.specs.declared.Place.TheVariants.{Debugger, OwnThrea
 use Rattle.record_exception.specs.declared.Place.TheVariants.{SecondChance, OfJob, OfJobDebugger}
 use Rattle.record_exception.specs.declared.Place.TheVariants.{Exiting}
 use Rattle.record_exception.specs.declared.Exception.{Exception}
-use Rattle.record_job.specs.declared.Parent.TheVariants.{ChildOf}
 use Rattle.records.specs.declared.tables.Tables.{Tables}
 use Rattle.records.specs.Tables.{job_at}
 use Rattle.model.specs.declared.Route.{Route}
 use Rattle.model.specs.declared.Route.TheVariants.{Ordinary, JobDebuggers, DebuggerOnly}
 use Rattle.model.specs.declared.Route.TheVariants.{ToExiting, NoType}
-use Rattle.model.specs.declared.Handler.TheVariants.{Nobody, HandlerAt}
 use Rattle.model.specs.declared.Search.{Search}
 use Rattle.model.specs.Exception.{pass_over, no_handler, try_at, search_up, own_job, from_jobs}
 use Rattle.model.specs.Exception.{from_second_chance, from_process, from_thread, from_debugger}
@@ -27,7 +26,7 @@ use Rattle.model.proofs.Keeps.{on_parent_on}
 -- P of the tables that a search leaves, and Q of the place where it ends
 pub record Found (P : Tables → Type 0) (Q : Place → Type 0) (s : Search) : Type 0 where
   pub left : P s.tables
-  pub place : (p : Place) → s.at ≡ HandlerAt p → Q p
+  pub place : (p : Place) → s.at ≡ Some p → Q p
 
 -- Q of the places that may be reached for thread n
 pub record Passing (n : ℕ) (P : Tables → Type 0) (Q : Place → Type 0) : Type 0 where
@@ -38,15 +37,15 @@ pub record Passing (n : ℕ) (P : Tables → Type 0) (Q : Place → Type 0) : Ty
   pub second : Q SecondChance
   pub job : (t : Tables) → P t → Q (OfJob (own_job t n))
   pub job_debugger : (t : Tables) → P t → Q (OfJobDebugger (own_job t n))
-  pub job_up : (t : Tables) (j i : ℕ) → P t → (job_at t j).parent ≡ ChildOf i → Q (OfJob j)
+  pub job_up : (t : Tables) (j i : ℕ) → P t → (job_at t j).parent ≡ Some i → Q (OfJob j)
       → Q (OfJob i)
-  pub job_debugger_up : (t : Tables) (j i : ℕ) → P t → (job_at t j).parent ≡ ChildOf i
+  pub job_debugger_up : (t : Tables) (j i : ℕ) → P t → (job_at t j).parent ≡ Some i
       → Q (OfJobDebugger j) → Q (OfJobDebugger i)
 
-nobody≢handler {ℓ} : {A : Type ℓ} {p : Place} → Nobody ≡ HandlerAt p → A
+nobody≢handler {ℓ} : {A : Type ℓ} {p : Place} → None ≡ Some p → A
 nobody≢handler {p = p} e = absurd (let z : ◌≡◌ {A = ℕ} 0 1 = cc in omega arith)
 
-handler_inj : {p q : Place} → HandlerAt p ≡ HandlerAt q → p ≡ q
+handler_inj : {p q : Place} → Some p ≡ Some q → p ≡ q
 handler_inj {p} {q} e = cc
 
 pub none_found : {P : Tables → Type 0} {Q : Place → Type 0} (t : Tables) → P t
@@ -62,7 +61,7 @@ module _ (n : ℕ) (P : Tables → Type 0) (Q : Place → Type 0) (s : Passing n
       (λ e. h (pass_over t n p) (s.pass t p y x))
 
   search_up_found : (m : ℕ) (at : ℕ → Place)
-      → ((t : Tables) (j i : ℕ) → P t → (job_at t j).parent ≡ ChildOf i → Q (at j) → Q (at i))
+      → ((t : Tables) (j i : ℕ) → P t → (job_at t j).parent ≡ Some i → Q (at j) → Q (at i))
       → (t : Tables) (j : ℕ) → P t → Q (at j) → Found P Q (search_up m at t n j)
   unfolding search_up
   search_up_found zero at up t j x y = none_found t x

@@ -1,6 +1,7 @@
 -- `Sound` holds at the start (`fresh_sound`) and after every call (`sound_step`), hence of every
 -- reachable state: `reachable`. Beside it, what a call has closed since (`closed_step`). Assumes
 -- nothing.
+use Rattle.std.proofs.Common.{None}
 use Prim.Native.Nat.{ℕ, ◌<◌}
 use native.Mathlib.Omega.{arith}
 use mathlib.Core.Path.{◌≡◌, refl, sym, ap, ◌∙◌}
@@ -8,7 +9,6 @@ use mathlib.Core.Bool.{true, false}
 use mathlib.Core.List.{List, [], ◌∷◌}
 use Rattle.laws.specs.Choice.{if◌then◌otherwise◌}
 use Rattle.laws.proofs.Cases.{no_both, if_on}
-use Rattle.record_job.specs.declared.Parent.TheVariants.{Orphan}
 use Rattle.record_job.specs.declared.Job.{Job}
 use Rattle.record_job.specs.Job.{no_job, new_job}
 use Rattle.record_process.specs.declared.Process.{Process}
@@ -223,8 +223,8 @@ module _ (t : Tables) (c : Call) (S : Sound t) where
 
 -- ---- Every reachable state -------------------------------------------------------------------
 
-fresh_orphan : (i : ℕ) → (job_at fresh_tables i).parent ≡ Orphan
-fresh_orphan = fresh_job (λ i v. v.parent ≡ Orphan) refl (λ i. refl)
+fresh_orphan : (i : ℕ) → (job_at fresh_tables i).parent ≡ None
+fresh_orphan = fresh_job (λ i v. v.parent ≡ None) refl (λ i. refl)
 
 fresh_unkilled : (i : ℕ) → (job_at fresh_tables i).killed ≡ false
 fresh_unkilled = fresh_job (λ i v. v.killed ≡ false) refl (λ i. refl)

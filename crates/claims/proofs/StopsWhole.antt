@@ -1,5 +1,7 @@
 -- After any call on a reachable state, what is to stop has stopped whole: `stops_whole`. Assumes
 -- nothing.
+use Rattle.record_job.specs.declared.Job.{Job}
+use Rattle.std.proofs.Common.{Option}
 use Prim.Native.Nat.{ℕ}
 use native.Mathlib.Omega.{arith}
 use mathlib.Core.Path.{◌≡◌, refl, sym, ap, ◌∙◌, subst}
@@ -21,7 +23,7 @@ use Rattle.reply.specs.declared.Reply.{Reply}
 use Rattle.reply.specs.Reply.{answered}
 use Rattle.records.specs.Tables.{fresh_tables, job_at, process_at, thread_at, put_process, put_thread}
 use Rattle.records.specs.Tables.{found_job}
-use Rattle.model.specs.Replies.{old_job, job}
+use Rattle.model.specs.Replies.{present, job}
 use Rattle.model.specs.Job.{kill_job, lists_thread, finish_thread}
 use Rattle.model.specs.JobCalls.{kill_job_call, with_child, with_new_process}
 use Rattle.model.specs.Step.{Call, cmd02, cmd0c, step, final}
@@ -105,14 +107,14 @@ codes_does (finishes n e m s w) T = codes_finish T n e m
 
 module _ (t : Tables) (j : ℕ) where
   made_found : (job_at t j).made ≡ true → job t j ≡ found (job_at t j)
-  unfolding old_job found_job
+  unfolding present found_job
   made_found m =
-      if_on (λ x. old_job x ≡ found (job_at t j)) _ _ _ (λ e. refl) (λ e. no_both m e)
+      if_on (λ x. present x ≡ found (job_at t j)) _ _ _ (λ e. refl) (λ e. no_both m e)
 
   unmade_missing : (job_at t j).made ≡ false → job t j ≡ missing (pos 103)
-  unfolding old_job found_job
+  unfolding present found_job
   unmade_missing m =
-      if_on (λ x. old_job x ≡ missing (pos 103)) _ _ _ (λ e. no_both e m) (λ e. refl)
+      if_on (λ (x : Option Job). present x ≡ missing (pos 103)) _ _ _ (λ e. no_both e m) (λ e. refl)
 
   refused : (n : ℕ) → answered t (pos n) ≡ kill_job_call t j → (n ≡ 0 → ⊥)
       → (kill_job_call t j).answer ≡ pos 0 → (job_at (kill_job_call t j).tables j).killed ≡ true

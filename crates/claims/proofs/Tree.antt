@@ -1,11 +1,11 @@
 -- `Tree` holds at the start (`fresh_tree`), and after every call (`tree_step`). Assumes nothing.
+use Rattle.std.proofs.Common.{Some, None}
 use Prim.Native.Nat.{ℕ, zero, suc}
 use native.Mathlib.Omega.{arith}
 use mathlib.Core.Path.{◌≡◌, refl, sym, subst}
 use lib.ListN.{get_or, replicate}
 use Rattle.laws.proofs.Cases.{no_both}
 use Rattle.job_policy.specs.Policy.{no_policy}
-use Rattle.record_job.specs.declared.Parent.TheVariants.{Orphan, ChildOf}
 use Rattle.record_job.specs.declared.Job.{Job}
 use Rattle.record_job.specs.Job.{no_job, root_job}
 use Rattle.record_process.specs.Process.{no_process}
@@ -89,7 +89,7 @@ module _ (i : ℕ) where
   unfolding token_at fresh_tables
   fresh_token = same_at no_token 64 i
 
-child≢none {ℓ} : {P : Type ℓ} {p : ℕ} → Orphan ≡ ChildOf p → P
+child≢none {ℓ} : {P : Type ℓ} {p : ℕ} → None ≡ Some p → P
 child≢none {p = p} e = absurd (let z : ◌≡◌ {A = ℕ} 0 1 = cc in omega arith)
 
 fresh_good : (i : ℕ) → GoodJob fresh_tables i (job_at fresh_tables i) no_policy no_policy

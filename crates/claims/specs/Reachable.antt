@@ -1,21 +1,19 @@
 -- The invariants of every state that calls from a fresh root leave.
+use Rattle.std.specs.Prelude.{Some, None}
 use Rattle.std.specs.Prelude.{ℕ, ◌<◌, ◌≡◌, Bool, true, false, List}
 use Rattle.laws.specs.Choice.{◌or◌, ◌=?◌}
 use Rattle.job_policy.specs.Policy.{no_policy}
 use Rattle.record_exception.specs.declared.Place.TheVariants.{OfJob, OfJobDebugger}
 use Rattle.record_exception.specs.declared.Exception.{Exception}
 use Rattle.record_exception.specs.Channel.{is_shut}
-use Rattle.record_job.specs.declared.Parent.TheVariants.{Orphan, ChildOf}
 use Rattle.record_job.specs.Job.{no_job}
-use Rattle.record_process.specs.declared.Critical.TheVariants.{To}
-use Rattle.record_process.specs.Process.{no_process, is_exited}
+use Rattle.record_process.specs.Process.{critical_to, no_process, is_exited}
 use Rattle.record_thread.specs.declared.Waiting.TheVariants.{NotWaiting, InException}
 use Rattle.record_thread.specs.Thread.{DEAD, no_thread}
 use Rattle.record_token.specs.SuspendToken.{no_token}
 use Rattle.records.specs.declared.tables.Tables.{Tables}
 use Rattle.records.specs.Tables.{job_at, own_at, inherited_at, process_at, fixed_at, thread_at, token_at}
 use Rattle.records.specs.Tables.{fresh_tables, Sized}
-use Rattle.records.specs.declared.owners.FoundTask.TheVariants.{OldTask}
 use Rattle.records.specs.Owners.{found_task}
 use Rattle.model.specs.Job.{lists_thread, may_terminate, count}
 use Rattle.model.specs.Step.{Call, final}
@@ -23,7 +21,7 @@ use Rattle.model.specs.Step.{Call, final}
 -- job j is at or above job i
 pub data AtOrAbove (t : Tables) (j : ℕ) : ℕ → Type 0 where
   here : AtOrAbove t j j
-  below : {i p : ℕ} → (job_at t i).parent ≡ ChildOf p → AtOrAbove t j p → AtOrAbove t j i
+  below : {i p : ℕ} → (job_at t i).parent ≡ Some p → AtOrAbove t j p → AtOrAbove t j i
 
 -- what holds also between any two changes of a call
 pub record Tree (t : Tables) : Type 0 where
@@ -37,10 +35,10 @@ pub record Tree (t : Tables) : Type 0 where
   pub token_unmade : (k : ℕ) → (token_at t k).made ≡ false → token_at t k ≡ no_token
   -- the root is made, and has no parent; every other made job has one
   pub root_made : (job_at t 0).made ≡ true
-  pub root_orphan : (job_at t 0).parent ≡ Orphan
-  pub orphan_root : (j : ℕ) → (job_at t j).made ≡ true → (job_at t j).parent ≡ Orphan → j ≡ 0
+  pub root_orphan : (job_at t 0).parent ≡ None
+  pub orphan_root : (j : ℕ) → (job_at t j).made ≡ true → (job_at t j).parent ≡ None → j ≡ 0
   -- a parent, a process's job and a thread's process are made
-  pub parent_made : (j p : ℕ) → (job_at t j).parent ≡ ChildOf p → (job_at t p).made ≡ true
+  pub parent_made : (j p : ℕ) → (job_at t j).parent ≡ Some p → (job_at t p).made ≡ true
   pub job_made : (p : ℕ) → (process_at t p).made ≡ true → (job_at t (process_at t p).job).made ≡ true
   pub process_made : (n : ℕ) → (thread_at t n).made ≡ true →
       (process_at t (thread_at t n).process).made ≡ true
@@ -49,14 +47,14 @@ pub record Tree (t : Tables) : Type 0 where
   pub held_kind : (k : ℕ) → (token_at t k).held ≡ true →
       ((token_at t k).kind =? 1) or ((token_at t k).kind =? 2) ≡ true
   pub task_made : (k : ℕ) → (token_at t k).held ≡ true →
-      found_task t (token_at t k).kind (token_at t k).name ≡ OldTask
+      found_task t (token_at t k).kind (token_at t k).name ≡ Some tt
   -- a job terminates only once killed; until then it is on its parent's list, and then on none
   pub terminated_killed : (j : ℕ) → (job_at t j).terminated ≡ true → (job_at t j).killed ≡ true
-  pub job_listed : (j p : ℕ) → (job_at t j).parent ≡ ChildOf p → (job_at t j).terminated ≡ false →
+  pub job_listed : (j p : ℕ) → (job_at t j).parent ≡ Some p → (job_at t j).terminated ≡ false →
       (job_at t j).listed ≡ true
   pub job_unlisted : (j : ℕ) → (job_at t j).listed ≡ true → (job_at t j).terminated ≡ false
   -- what is on a list keeps its owner from ending
-  pub parent_alive : (j p : ℕ) → (job_at t j).listed ≡ true → (job_at t j).parent ≡ ChildOf p →
+  pub parent_alive : (j p : ℕ) → (job_at t j).listed ≡ true → (job_at t j).parent ≡ Some p →
       (job_at t p).terminated ≡ false
   pub job_alive : (p : ℕ) → (process_at t p).listed ≡ true →
       (job_at t (process_at t p).job).terminated ≡ false
@@ -69,7 +67,7 @@ pub record Tree (t : Tables) : Type 0 where
   pub terminated_exited : (p : ℕ) → (process_at t p).terminated ≡ true →
       is_exited (process_at t p).status ≡ true
   -- a bound job is at or above the process's own
-  pub bound_above : (p j : ℕ) (b : Bool) → (process_at t p).critical ≡ To j b →
+  pub bound_above : (p j : ℕ) (b : Bool) → (process_at t p).critical ≡ critical_to j b →
       AtOrAbove t j (process_at t p).job
   -- a thread is on its process's list until it is Dead, and a Dead one waits for nothing
   pub thread_listed : (n : ℕ) → (thread_at t n).made ≡ true → ((thread_at t n).state =? DEAD) ≡ false →
@@ -99,9 +97,9 @@ pub record Sound (t : Tables) : Type 0 where
   -- 32 deep
   pub rank : ℕ → ℕ
   pub rank_below : (j : ℕ) → (job_at t j).made ≡ true → rank j < count (λ v. v.made) t.jobs
-  pub rank_falls : (j p : ℕ) → (job_at t j).parent ≡ ChildOf p → rank p < rank j
+  pub rank_falls : (j p : ℕ) → (job_at t j).parent ≡ Some p → rank p < rank j
   -- below a killed job all is killed, and in a killed job every process is Exited
-  pub killed_below : (j p : ℕ) → (job_at t j).parent ≡ ChildOf p → (job_at t p).killed ≡ true →
+  pub killed_below : (j p : ℕ) → (job_at t j).parent ≡ Some p → (job_at t p).killed ≡ true →
       (job_at t j).killed ≡ true
   pub killed_exited : (p : ℕ) → (process_at t p).made ≡ true →
       (job_at t (process_at t p).job).killed ≡ true →

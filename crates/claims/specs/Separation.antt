@@ -4,9 +4,9 @@
 -- is bound critical to a job outside it, and any list of calls, each made for one of the two and
 -- using only its names. Then the second trip's calls get the same answers and fields, and the
 -- records under its names are the same in the end, as if the first trip's calls had been left out.
+use Rattle.record_process.specs.Process.{critical_to}
 use Rattle.std.specs.Prelude.{ℕ, ◌≡◌, Bool, true, false, List, [], ◌∷◌}
 use Rattle.laws.specs.Choice.{◌≤?◌, ◌<?◌, ◌or◌, if◌then◌otherwise◌}
-use Rattle.record_process.specs.declared.Critical.TheVariants.{To}
 use Rattle.records.specs.declared.tables.Tables.{Tables}
 use Rattle.records.specs.Tables.{job_at, own_at, inherited_at, process_at, fixed_at, thread_at, token_at}
 use Rattle.records.specs.Tables.{fresh_tables}
@@ -56,7 +56,7 @@ pub record Apart (x y : Trip) : Type 0 where
 abbrev pub Inward : Tables → Trip → Type 0
 Inward t x =
     (p j : ℕ) (b : Bool) → (process_at t p).made ≡ true → x.processes p ≡ true →
-    (process_at t p).critical ≡ To j b →
+    (process_at t p).critical ≡ critical_to j b →
     x.jobs j ≡ true
 
 -- ---- Calls that use only a trip's names --------------------------------------------------------

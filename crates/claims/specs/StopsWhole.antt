@@ -3,8 +3,7 @@
 -- a code that its critical binding wants has killed the bound job; and what the call stopped has
 -- the code -1028, but for the process that the call itself ended with a code of its own.
 use Rattle.std.specs.Prelude.{ℕ, ◌≡◌, Bool, true, false, List, ℤ, pos}
-use Rattle.record_process.specs.declared.Critical.TheVariants.{To}
-use Rattle.record_process.specs.Process.{KILL_CODE, is_exited, code_of, acts}
+use Rattle.record_process.specs.Process.{critical_to, KILL_CODE, is_exited, code_of, acts}
 use Rattle.records.specs.declared.tables.Tables.{Tables}
 use Rattle.records.specs.Tables.{job_at, process_at, thread_at, fresh_tables}
 use Rattle.model.specs.Step.{Call, cmd02, cmd05, cmd0c, step, final}
@@ -24,7 +23,7 @@ pub record Stopped (t : Tables) (c : Call) (u : Tables) : Type 0 where
   -- the end of a process kills the job that it is bound to
   pub bound : (p j : ℕ) (nonzero : Bool) → (process_at t p).terminated ≡ false →
       (process_at u p).terminated ≡ true →
-      (process_at u p).critical ≡ To j nonzero →
+      (process_at u p).critical ≡ critical_to j nonzero →
       acts nonzero (code_of (process_at u p).status) ≡ true →
       (job_at u j).killed ≡ true
   -- every job at or below a killed one is killed, and every process in one of them is Exited

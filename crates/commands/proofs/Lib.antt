@@ -2,4 +2,5 @@
 pub mod Signed
 pub mod Sizes
 pub mod Fronts
+pub mod Pairs
 pub mod Stays

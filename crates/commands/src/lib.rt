@@ -2,7 +2,7 @@
 // Past the end of its bytes a command has zeros: no reader relies on its caller.
 #![tactic(auto)]
 
-ghost use Rattle.std.specs.Prelude.{◌≡◌};
+ghost use Rattle.std.specs.Prelude.{◌≡◌, ◌+◌, ◌*◌};
 ghost use Rattle.commands.specs.Commands.{byte, half, word, long, signed64, pair_at, fifteen_at};
 ghost use Rattle.commands.specs.Commands.{size_of, next_of};
 
@@ -21,57 +21,45 @@ pub enum Next {
 pub fn byte_at(s: &[u8], i: usize) -> u8
     ensures { result ≡ byte s.now i }
 {
-    if i < s.len() {
-        return s[i];
-    }
-    0
-}
-
-// Two bytes.
-fn half_from(s: &[u8], i: u8) -> u16
-    ensures { result ≡ half s.now i }
-{
-    let at = i as usize;
-    byte_at(s, at) as u16 + 0x100 * (byte_at(s, at + 1) as u16)
+    s.get(i).copied().unwrap_or(0)
 }
 
 // H, at byte 2.
 pub fn half_at(s: &[u8]) -> u16
     ensures { result ≡ half s.now 2 }
 {
-    half_from(s, 2)
+    u16::from_le_bytes([byte_at(s, 2), byte_at(s, 3)])
 }
 
 // W, at byte 2.
 pub fn word_at(s: &[u8]) -> u32
     ensures { result ≡ word s.now 2 }
 {
-    half_from(s, 2) as u32 + 0x10000 * (half_from(s, 4) as u32)
-}
-
-// The signed number of these 64 bits.
-fn signed_of(n: u64) -> i64
-    ensures { result ≡ signed64 n }
-{
-    if n < 0x8000000000000000 {
-        return n as i64;
-    }
-    -1 - ((u64::MAX - n) as i64)
+    u32::from_le_bytes([byte_at(s, 2), byte_at(s, 3), byte_at(s, 4), byte_at(s, 5)])
 }
 
 // V, at byte 2.
+#[tactic(auto, using(crate::proofs::Signed::signed_is))]
 pub fn value_at(s: &[u8]) -> i64
     ensures { result ≡ signed64 (long s.now 2) }
 {
-    let high = half_from(s, 6) as u64 + 0x10000 * (half_from(s, 8) as u64);
-    signed_of(word_at(s) as u64 + 0x100000000 * high)
+    i64::from_le_bytes([
+        byte_at(s, 2),
+        byte_at(s, 3),
+        byte_at(s, 4),
+        byte_at(s, 5),
+        byte_at(s, 6),
+        byte_at(s, 7),
+        byte_at(s, 8),
+        byte_at(s, 9),
+    ])
 }
 
-// A condition and an action.
-fn pair_at(s: &[u8], i: u8) -> BasicPolicy
-    ensures { result ≡ pair_at s.now i }
+// Pair k of 0f: a condition and an action.
+fn pair_at(s: &[u8], k: u8) -> BasicPolicy
+    ensures { result ≡ pair_at s.now (4 + 2 * k) }
 {
-    let at = i as usize;
+    let at = 4 + 2 * k as usize;
     BasicPolicy {
         condition: byte_at(s, at),
         action: byte_at(s, at + 1),
@@ -79,6 +67,7 @@ fn pair_at(s: &[u8], i: u8) -> BasicPolicy
 }
 
 // The four pairs of 0f, from byte 4, and eleven entries that no command has.
+#[tactic(auto, using(crate::proofs::Pairs::one_more))]
 pub fn fifteen_at(s: &[u8]) -> [BasicPolicy; 15]
     ensures { result ≡ fifteen_at s.now }
 {
@@ -87,16 +76,16 @@ pub fn fifteen_at(s: &[u8]) -> [BasicPolicy; 15]
         action: 0,
     };
     let mut policies = [none; 15];
-    policies[0] = pair_at(s, 4);
-    policies[1] = pair_at(s, 6);
-    policies[2] = pair_at(s, 8);
-    policies[3] = pair_at(s, 10);
+    for i in 0..4 {
+        policies[i] = pair_at(s, i as u8);
+    }
     policies
 }
 
 // -- A whole command -------------------------------------------------------------------------
 
 // The bytes of a command with its operands, 0 where there is no such command.
+#[tactic(auto, unfolding(crate::specs::Commands::size_of))]
 fn size_of(code: u8) -> usize
     ensures { result ≡ size_of code }
 {
@@ -137,25 +126,17 @@ fn size_of(code: u8) -> usize
 }
 
 // A whole 0f with a count above 4 is no command.
+#[tactic(auto, using(laws::proofs::Flow::branches), unfolding(crate::specs::Commands::next_of))]
 pub fn next_of(s: &[u8]) -> Next
     ensures { result ≡ next_of s.now }
 {
-    let n = s.len();
-    if n == 0 {
+    let Some(&code) = s.first() else {
         return Next::Wait;
+    };
+    match size_of(code) {
+        0 => Next::Stop,
+        size if s.len() < size => Next::Wait,
+        _ if code == 0x0f && 4 < byte_at(s, 3) => Next::Stop,
+        size => Next::Whole(size),
     }
-    let code = byte_at(s, 0);
-    let size = size_of(code);
-    if size == 0 {
-        return Next::Stop;
-    }
-    if n < size {
-        return Next::Wait;
-    }
-    if code == 0x0f {
-        if 4 < byte_at(s, 3) {
-            return Next::Stop;
-        }
-    }
-    Next::Whole(size)
 }

@@ -5,43 +5,41 @@ use record_exception::{Exception, ExceptionType, Place};
 use record_job::Job;
 use record_process::{Process, Status};
 use record_thread::{Thread, ThreadState, Waiting};
-use records::reading::{job_at, thread_at};
 use records::tables::{Tables, fresh_tables};
 use std::io;
 
 // A running process of a job, critical to a job.
 fn critical(job: u8, bound: u8) -> Process {
-    let process = Process::new(job);
-    let running = process.with_status(Status::Running);
-    running.bind_to(bound, false)
+    Process::new(job)
+        .with_status(Status::Running)
+        .bind_to(bound, false)
 }
 
 // A thread of a process that waits in an exception at its own level.
 fn waiting(process: u8) -> Thread {
-    let v = Thread::new(process);
-    let started = v.start();
     let e = Exception {
         kind: ExceptionType::GENERAL,
         place: Place::OwnThread,
         handled: false,
         second: false,
     };
-    started.waits(ThreadState::BLOCKED_EXCEPTION, Waiting::InException(e))
+    Thread::new(process)
+        .start()
+        .waits(ThreadState::BLOCKED_EXCEPTION, Waiting::InException(e))
 }
 
 // 32 jobs in a chain. Process k of job k is critical to the job above, process 32 + k lists thread k, which waits.
 // Process 0, with thread 0, is critical to the lowest job, its own, and process 32 to the root, its own.
 fn chain() -> Tables {
     let mut t = fresh_tables();
-    let mut above: u8 = 0;
     for k in 1..32u8 {
+        let above = k - 1;
         t = t.with_job(k, Job::new(above));
         t = t.with_process(k, critical(k, above));
         t = t.with_process(32 + k, Process::new(k));
         t = t.with_thread(k, waiting(32 + k));
-        above = k;
     }
-    t = t.with_process(0, critical(above, above));
+    t = t.with_process(0, critical(31, 31));
     t = t.with_thread(0, Thread::new(0));
     t.with_process(32, critical(0, 0))
 }
@@ -50,15 +48,8 @@ fn chain() -> Tables {
 // exit of a process, which waits for its end, up to the root.
 fn main(rt: HostRuntime) -> io::Result<()> {
     let mut t = cascade::exit_process(chain(), 0, 7);
-    let v = thread_at(t, 0);
-    t = t.with_thread(0, v.finish());
+    t = t.with_thread(0, t.threads[0].finish());
     t = cascade::remove_thread(t, 0);
-    let mut killed: u64 = 0;
-    for k in 0..32u8 {
-        let v = job_at(t, k);
-        if v.killed {
-            killed += 1;
-        }
-    }
+    let killed = t.jobs.iter().filter(|v| v.killed).count();
     print!(rt; "{killed}")
 }

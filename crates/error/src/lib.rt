@@ -1,9 +1,24 @@
-// error: the numbers with which a call is answered. `ZxError` has those of error.rs that document 01 names, unchanged;
-// `Refusal` has the port's own, by which a call is turned back before the Rust would be asked.
+// error: why a call is refused, and the number that says so. `ZxError` has those of error.rs that the scope names,
+// unchanged; `Refusal` has the port's own besides, by which a call is turned back before the Rust would be asked.
 #![tactic(auto)]
 
-#[derive(Drop)]
-pub struct ZxError;
+ghost use Rattle.std.specs.Prelude.{◌≡◌};
+ghost use Rattle.error.specs.Numbers.{zx_number, number_of, answer_of};
+ghost use Rattle.error.specs.declared.Refusal.TheVariants.{Zx};
+
+#[derive(Clone, Copy, PartialEq, Eq)]
+pub enum ZxError {
+    InvalidArgs,
+    BadState,
+    TimedOut,
+    ShouldWait,
+    Canceled,
+    AlreadyExists,
+    AlreadyBound,
+    AccessDenied,
+    Stop,
+    Next,
+}
 
 impl ZxError {
     pub const INVALID_ARGS: i64 = -10;
@@ -25,24 +40,90 @@ impl ZxError {
     pub const STOP: i64 = -60;
 
     pub const NEXT: i64 = -61;
+
+    pub fn number(self) -> i64
+        ensures { result ≡ zx_number self }
+    {
+        match self {
+            ZxError::InvalidArgs => -10,
+            ZxError::BadState => -20,
+            ZxError::TimedOut => -21,
+            ZxError::ShouldWait => -22,
+            ZxError::Canceled => -23,
+            ZxError::AlreadyExists => -26,
+            ZxError::AlreadyBound => -27,
+            ZxError::AccessDenied => -30,
+            ZxError::Stop => -60,
+            ZxError::Next => -61,
+        }
+    }
 }
 
-#[derive(Drop)]
-pub struct Refusal;
+#[derive(Clone, Copy, PartialEq, Eq)]
+pub enum Refusal {
+    // A name past its table.
+    PastTable,
+    // A new name already used.
+    Used,
+    // An old name never made, or a dropped token.
+    NotMade,
+    // A field outside its list.
+    BadField,
+    // A call out of turn.
+    OutOfTurn,
+    // A spot where the Rust panics.
+    Panics,
+    // A suspend count that is full.
+    Full,
+    // What the Rust answers.
+    Zx(ZxError),
+}
+
+impl From<ZxError> for Refusal {
+    ghost from_gives = { λ error refusal. refusal ≡ Zx error };
+
+    fn from(error: ZxError) -> Refusal {
+        Refusal::Zx(error)
+    }
+}
 
 impl Refusal {
-    // A name past its table.
     pub const PAST_TABLE: i64 = 101;
-    // A new name already used.
+
     pub const USED: i64 = 102;
-    // An old name never made, or a dropped token.
+
     pub const NOT_MADE: i64 = 103;
-    // A field outside its list.
+
     pub const BAD_FIELD: i64 = 104;
-    // A call out of turn.
+
     pub const OUT_OF_TURN: i64 = 105;
-    // A spot where the Rust panics.
+
     pub const PANICS: i64 = 106;
-    // A suspend count that is full.
+
     pub const FULL: i64 = 107;
+
+    pub fn number(self) -> i64
+        ensures { result ≡ number_of self }
+    {
+        match self {
+            Refusal::PastTable => 101,
+            Refusal::Used => 102,
+            Refusal::NotMade => 103,
+            Refusal::BadField => 104,
+            Refusal::OutOfTurn => 105,
+            Refusal::Panics => 106,
+            Refusal::Full => 107,
+            Refusal::Zx(error) => error.number(),
+        }
+    }
+}
+
+// The number with which a call is answered: 0 if it is accepted.
+pub fn answer_of(outcome: Result<(), Refusal>) -> i64
+    ensures { result ≡ answer_of outcome }
+{
+    match outcome {
+        Ok(()) => 0,
+        Err(refusal) => refusal.number(),
+    }
 }

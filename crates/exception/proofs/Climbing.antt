@@ -1,5 +1,6 @@
 -- The search upward over the table of jobs, along the ways of the code. m counts the jobs left, k those after this one.
 -- Assumes nothing.
+use Rattle.std.proofs.Common.{Some, None}
 use Prim.Native.Nat.{ℕ, suc, ◌<◌, ◌≤◌}
 use native.Mathlib.Omega.{arith}
 use mathlib.Core.Path.{◌≡◌, refl, sym, ap, ◌∙◌}
@@ -12,16 +13,14 @@ use Rattle.laws.proofs.Tables.{read_past, write_past}
 use Rattle.record_exception.specs.declared.Level.{Level}
 use Rattle.record_exception.specs.declared.Place.{Place}
 use Rattle.record_exception.specs.Channel.{is_bound}
-use Rattle.record_job.specs.declared.Parent.TheVariants.{Orphan, ChildOf}
 use Rattle.record_job.specs.declared.Job.{Job}
 use Rattle.record_job.specs.Job.{no_job}
-use Rattle.model.specs.declared.Handler.TheVariants.{Nobody, HandlerAt}
 use Rattle.model.specs.Job.{on_parent}
 use Rattle.model.proofs.Upward.{no_parent, with_parent}
 use Rattle.exception.specs.declared.Climbed.{Climbed}
 use Rattle.exception.specs.Seek.{level_in, passed_in, job_place, climbed, climbing}
 
-pub up_out : (m : ℕ) (d : Bool) (jobs : List Job) (j : ℕ) → 0 ≡ m → climbed Nobody jobs ≡ climbing m d jobs j
+pub up_out : (m : ℕ) (d : Bool) (jobs : List Job) (j : ℕ) → 0 ≡ m → climbed None jobs ≡ climbing m d jobs j
 unfolding climbing
 up_out m d jobs j e = ap (λ (k : ℕ). climbing k d jobs j) e
 
@@ -34,7 +33,7 @@ module _ (k m : ℕ) (s : suc k ≡ m) (d : Bool) (jobs : List Job) (j : ℕ) wh
   steps = ap (λ (x : ℕ). climbing x d jobs j) s
 
   -- a job past the table was never made
-  pub up_past : length jobs ≡ 32 → 32 ≤ j → climbed Nobody jobs ≡ climbing m d jobs j
+  pub up_past : length jobs ≡ 32 → 32 ≤ j → climbed None jobs ≡ climbing m d jobs j
   unfolding climbing
   up_past len h =
       let r = read_past jobs j no_job len h in
@@ -44,14 +43,14 @@ module _ (k m : ℕ) (s : suc k ≡ m) (d : Bool) (jobs : List Job) (j : ℕ) wh
       ∙ steps
 
   module _ {l : Level} {b : Bool} (e : l ≡ level_in d (get_or jobs j no_job)) (f : b ≡ is_bound l) where
-    pub up_bound : {p : Place} → b ≡ true → p ≡ job_place d j → climbed (HandlerAt p) jobs ≡ climbing m d jobs j
+    pub up_bound : {p : Place} → b ≡ true → p ≡ job_place d j → climbed (Some p) jobs ≡ climbing m d jobs j
     unfolding climbing
     up_bound g q = yes _ _ (rw (← e, ← f) g) (rw q) ∙ steps
 
     module _ (g : b ≡ false) {w : Job} (x : w ≡ passed_in d (get_or jobs j no_job)) (len : length jobs ≡ 32)
         (h : j < 32) where
       there : {y : Climbed} →
-          y ≡ on_parent w.parent (climbed Nobody (set jobs j w)) (λ i. climbing k d (set jobs j w) i) →
+          y ≡ on_parent w.parent (climbed None (set jobs j w)) (λ i. climbing k d (set jobs j w) i) →
           y ≡ climbing m d jobs j
       unfolding climbing
       there z =
@@ -59,8 +58,8 @@ module _ (k m : ℕ) (s : suc k ≡ m) (d : Bool) (jobs : List Job) (j : ℕ) wh
           (rw (← x, get_or-set_same jobs j w no_job (omega arith)) z)
           ∙ steps
 
-      pub up_orphan : w.parent ≡ Orphan → climbed Nobody (set jobs j w) ≡ climbing m d jobs j
+      pub up_orphan : w.parent ≡ None → climbed None (set jobs j w) ≡ climbing m d jobs j
       up_orphan o = there (no_parent _ _ o refl)
 
-      pub up_goes : {i : ℕ} → w.parent ≡ ChildOf i → climbing k d (set jobs j w) i ≡ climbing m d jobs j
+      pub up_goes : {i : ℕ} → w.parent ≡ Some i → climbing k d (set jobs j w) i ≡ climbing m d jobs j
       up_goes o = there (with_parent _ _ o refl)

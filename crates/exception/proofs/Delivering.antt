@@ -1,5 +1,6 @@
 -- How an exception is delivered: what is given for it, stored, is what the model says of what the search found. `Still`
 -- says that the process of a name past the table does not exit. Assumes nothing.
+use Rattle.std.proofs.Common.{Option, Some, None}
 use Prim.Native.Nat.{ℕ, ◌%◌, ◌≤◌, ◌<◌}
 use native.Mathlib.Nat.{mod-eq_of_lt}
 use native.Mathlib.Decide.{dec_lt}
@@ -32,8 +33,6 @@ use Rattle.records.proofs.Kept.{process_kept}
 use Rattle.reply.specs.declared.Fields.TheVariants.{OwnerField}
 use Rattle.reply.specs.declared.Reply.{Reply}
 use Rattle.reply.specs.Reply.{reply}
-use Rattle.model.specs.declared.Handler.{Handler}
-use Rattle.model.specs.declared.Handler.TheVariants.{Nobody, HandlerAt}
 use Rattle.model.specs.Job.{exit_listed, exit_process, is_live_process, kill_job}
 use Rattle.model.specs.Exception.{is_synth, process_of, owner_of, outcome, over_tables}
 use Rattle.model.specs.Exception.{unhandled, deliver}
@@ -90,9 +89,9 @@ own_fits p q k = rw (le-leb 64 p k)
 -- ---- Delivery ----------------------------------------------------------------------------------
 
 -- ThreadExiting, by what the search found
-unfoldable pub exiting_to : Handler → Tables → ℕ → ℕ → Reply
-exiting_to Nobody u n kind = outcome u NEXT
-exiting_to (HandlerAt p) u n kind =
+unfoldable pub exiting_to : Option Place → Tables → ℕ → ℕ → Reply
+exiting_to None u n kind = outcome u NEXT
+exiting_to (Some p) u n kind =
     if (thread_at u n).killed then outcome u STOP otherwise
     reply (put_thread u n (waits (thread_at u n) (thread_at u n).state (InException (exception_at kind p false))))
     (pos 1) (OwnerField (process_of u n))
@@ -139,7 +138,7 @@ module _ (t : Tables) (z : Sized t) (n : ℕ) (h : n < 128) (f : Found)
   put_process_lem w r = ap (with_processes (with w f.process)) (set-set t.processes name f.process r)
 
   waiting : (p : Place) (kind : ℕ) (b : Bool) →
-      deliver (HandlerAt p) there n kind b ≡ stored_in t n name (waits_at f p n kind b)
+      deliver (Some p) there n kind b ≡ stored_in t n name (waits_at f p n kind b)
   unfolding deliver stored_in if◌then◌otherwise◌
   waiting p kind b =
       ap (λ (u : Tables). reply u (pos (level_of p)) (OwnerField (owner_of there n p)))
@@ -182,16 +181,16 @@ module _ (t : Tables) (z : Sized t) (n : ℕ) (h : n < 128) (f : Found)
       (λ d. rw (s, not_no d) (ap (λ (u : Tables). reply u NEXT (OwnerField 0)) (exit_goes d)))
       (λ d. rw (s, not_yes d) (ap (λ (u : Tables). reply u NEXT (OwnerField 0)) (exit_rests d))))
 
-  pub deliver_at : (at : Handler) (kind : ℕ) (b : Bool) →
+  pub deliver_at : (at : Option Place) (kind : ℕ) (b : Bool) →
       deliver at there n kind b ≡ stored_in t n name (delivers at f n kind b)
   unfolding deliver delivers
-  deliver_at Nobody kind b = ending kind
-  deliver_at (HandlerAt p) kind b = waiting p kind b
+  deliver_at None kind b = ending kind
+  deliver_at (Some p) kind b = waiting p kind b
 
-  pub deliver_still : (at : Handler) (kind : ℕ) (b : Bool) → Still name (delivers at f n kind b)
+  pub deliver_still : (at : Option Place) (kind : ℕ) (b : Bool) → Still name (delivers at f n kind b)
   unfolding delivers unheard if◌then◌otherwise◌
-  deliver_still (HandlerAt p) kind b k = refl
-  deliver_still Nobody kind b k =
+  deliver_still (Some p) kind b k = refl
+  deliver_still None kind b k =
       by (is_synth kind)
       (λ s. rw s)
       (λ s. rw (s, not_yes dead))
@@ -212,16 +211,16 @@ module _ (t : Tables) (z : Sized t) (n : ℕ) (h : n < 128) (f : Found)
       ∙ ap (λ (x : Thread). reply (with (exiting_at p kind f.thread) f.process) (pos 1) (OwnerField x.process))
       thread_is
 
-  pub exits_at : (at : Handler) (kind : ℕ) → exiting_to at there n kind ≡ stored_in t n name (exits_to at f kind)
+  pub exits_at : (at : Option Place) (kind : ℕ) → exiting_to at there n kind ≡ stored_in t n name (exits_to at f kind)
   unfolding exiting_to exits_to stored_in if◌then◌otherwise◌
-  exits_at Nobody kind = refl
-  exits_at (HandlerAt p) kind =
+  exits_at None kind = refl
+  exits_at (Some p) kind =
       let k : (thread_at there n).killed ≡ f.thread.killed = ap (λ (x : Thread). x.killed) thread_is in
       by f.thread.killed
       (λ d. sym (first _ _ (k ∙ d) refl) ∙ ap (stored_in t n name) (first _ _ d refl))
       (λ d. sym (second _ _ (k ∙ d) refl) ∙ exit_waits p kind ∙ ap (stored_in t n name) (second _ _ d refl))
 
-pub exits_still : (at : Handler) (f : Found) (kind : ℕ) → (exits_to at f kind).exits ≡ false
+pub exits_still : (at : Option Place) (f : Found) (kind : ℕ) → (exits_to at f kind).exits ≡ false
 unfolding exits_to if◌then◌otherwise◌
-exits_still Nobody f kind = refl
-exits_still (HandlerAt p) f kind = by f.thread.killed (λ d. rw d) (λ d. rw d)
+exits_still None f kind = refl
+exits_still (Some p) f kind = by f.thread.killed (λ d. rw d) (λ d. rw d)

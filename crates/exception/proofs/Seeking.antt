@@ -1,4 +1,5 @@
 -- What the records say of the search is what the model's search over the tables comes to. Assumes nothing.
+use Rattle.std.proofs.Common.{Option, Some, None}
 use Prim.Native.Nat.{ℕ, zero, suc, ◌<◌}
 use mathlib.Core.Path.{◌≡◌, refl, sym, ap, ◌∙◌, subst}
 use mathlib.Core.Bool.{Bool, true, false}
@@ -13,8 +14,6 @@ use Rattle.record_exception.specs.declared.Place.TheVariants.{SecondChance, OfJo
 use Rattle.record_exception.specs.declared.Place.TheVariants.{Exiting}
 use Rattle.record_exception.specs.declared.Exception.{Exception}
 use Rattle.record_exception.specs.Channel.{is_bound, tried}
-use Rattle.record_job.specs.declared.Parent.{Parent}
-use Rattle.record_job.specs.declared.Parent.TheVariants.{Orphan, ChildOf}
 use Rattle.record_job.specs.declared.Job.{Job}
 use Rattle.record_job.specs.Job.{no_job}
 use Rattle.record_process.specs.declared.Process.{Process}
@@ -26,7 +25,6 @@ use Rattle.records.specs.Tables.{Sized, job_at, process_at, put_job, put_process
 use Rattle.model.specs.declared.Route.{Route}
 use Rattle.model.specs.declared.Route.TheVariants.{Ordinary, JobDebuggers, DebuggerOnly}
 use Rattle.model.specs.declared.Route.TheVariants.{ToExiting, NoType}
-use Rattle.model.specs.declared.Handler.TheVariants.{Nobody, HandlerAt}
 use Rattle.model.specs.declared.Search.{Search}
 use Rattle.model.specs.Job.{on_parent}
 use Rattle.model.specs.Exception as model
@@ -50,7 +48,7 @@ use Rattle.exception.proofs.Stored.{pass_level1, pass_level2, pass_level3}
 -- ---- A level -----------------------------------------------------------------------------------
 
 abbrev taken : Tables → Place → Search
-taken u p = record { tables = u; at = HandlerAt p }
+taken u p = record { tables = u; at = Some p }
 
 -- l is the level, w the tables past it
 tries : (u : Tables) (n : ℕ) (p : Place) (k : Tables → Search) {l : Level} {w : Tables} →
@@ -87,20 +85,20 @@ module _ (n : ℕ) where
   module _ (k : ℕ) (d : Bool) (u : Tables) (j : ℕ)
       (above : (i : ℕ) →
       search_up k (job_place d) (past d u j) n i ≡ climbed_in u (climbing k d (passed_jobs d u.jobs j) i)) where
-    parent_is : (q : Parent) →
+    parent_is : (q : Option ℕ) →
         on_parent q (no_handler (past d u j)) (λ i. search_up k (job_place d) (past d u j) n i)
-        ≡ climbed_in u (on_parent q (climbed Nobody (passed_jobs d u.jobs j)) λ i.
+        ≡ climbed_in u (on_parent q (climbed None (passed_jobs d u.jobs j)) λ i.
         climbing k d (passed_jobs d u.jobs j) i)
     unfolding on_parent
-    parent_is Orphan = refl
-    parent_is (ChildOf i) = above i
+    parent_is None = refl
+    parent_is (Some i) = above i
 
     step_is : (b : Bool) →
         if b then taken u (job_place d j) otherwise
         on_parent (job_at (past d u j) j).parent (no_handler (past d u j))
         (λ i. search_up k (job_place d) (past d u j) n i)
-        ≡ climbed_in u (ite b (λ _. climbed (HandlerAt (job_place d j)) u.jobs) λ _.
-        on_parent (get_or (passed_jobs d u.jobs j) j no_job).parent (climbed Nobody (passed_jobs d u.jobs j)) λ i.
+        ≡ climbed_in u (ite b (λ _. climbed (Some (job_place d j)) u.jobs) λ _.
+        on_parent (get_or (passed_jobs d u.jobs j) j no_job).parent (climbed None (passed_jobs d u.jobs j)) λ i.
         climbing k d (passed_jobs d u.jobs j) i)
     unfolding if◌then◌otherwise◌ ite job_at
     step_is true = refl
@@ -301,12 +299,12 @@ module _ (t : Tables) (n : ℕ) {q : Process} (e : process_at t (process_of t n)
       go true = refl
       go false = refl
 
-  above_is : (w : Parent) (b : Bool) →
+  above_is : (w : Option ℕ) (b : Bool) →
       on_parent w (no_handler t) (λ i. search_up 32 OfJob t n i)
       ≡ from_stage (on_parent w NobodyLeft λ i. FromJob false i) b t n
   unfolding on_parent from_stage
-  above_is Orphan b = refl
-  above_is (ChildOf i) b = refl
+  above_is None b = refl
+  above_is (Some i) b = refl
 
   pub next_is : (p : Place) (x : Exception) →
       model.next_handler p t n x ≡ from_stage (next_stage p x q t.jobs) x.second t n

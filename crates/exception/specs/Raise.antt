@@ -1,5 +1,6 @@
 -- 14 and 15 over the records that they name: what a call gives, stored where the records were, is what the model says
 -- of the call, whatever else the tables hold.
+use Rattle.std.specs.Prelude.{Option, Some, None}
 use Rattle.std.specs.Prelude.{ℕ, ◌%◌, ◌≡◌, Bool, true, false, not, List, ℤ, pos}
 use Rattle.laws.specs.Choice.{◌=?◌, ◌≤?◌, ◌or◌, if◌then◌otherwise◌}
 use Rattle.error.specs.Numbers.{NEXT, STOP}
@@ -23,8 +24,6 @@ use Rattle.reply.specs.declared.Fields.TheVariants.{NoFields, OwnerField}
 use Rattle.reply.specs.declared.Reply.{Reply}
 use Rattle.reply.specs.Reply.{reply}
 use Rattle.model.specs.declared.Route.{Route}
-use Rattle.model.specs.declared.Handler.{Handler}
-use Rattle.model.specs.declared.Handler.TheVariants.{Nobody, HandlerAt}
 use Rattle.model.specs.Job.{exit_listed, is_live_process, kill_job}
 use Rattle.model.specs.Exception.{is_synth, over_at_first}
 use Rattle.exception.specs.declared.Found.{Found}
@@ -97,14 +96,14 @@ unheard f kind =
     if not (is_live_process f.process) then goes_on f otherwise
     exits_with f
 
-unfoldable pub delivers : Handler → Found → ℕ → ℕ → Bool → Raised
-delivers Nobody f n kind second = unheard f kind
-delivers (HandlerAt place) f n kind second = waits_at f place n kind second
+unfoldable pub delivers : Option Place → Found → ℕ → ℕ → Bool → Raised
+delivers None f n kind second = unheard f kind
+delivers (Some place) f n kind second = waits_at f place n kind second
 
 -- ThreadExiting leaves the state; a killed thread sends it and is stopped (M11)
-unfoldable pub exits_to : Handler → Found → ℕ → Raised
-exits_to Nobody f kind = shown NEXT 0 f.thread f.process f.jobs
-exits_to (HandlerAt place) f kind =
+unfoldable pub exits_to : Option Place → Found → ℕ → Raised
+exits_to None f kind = shown NEXT 0 f.thread f.process f.jobs
+exits_to (Some place) f kind =
     if f.thread.killed then shown STOP 0 f.thread f.process f.jobs otherwise
     shown (pos 1) f.thread.process
     (waits f.thread f.thread.state (InException (exception_at kind place false))) f.process f.jobs

@@ -1,5 +1,6 @@
 -- The search for a handler over the records alone: the thread, its process and the table of jobs. A stage says which
 -- handlers are left. A level that is passed and hung up becomes unbound.
+use Rattle.std.specs.Prelude.{Option, Some, None}
 use Rattle.std.specs.Prelude.{ℕ, zero, suc, Bool, true, false, not, List, get_or, set}
 use Rattle.laws.specs.Choice.{◌=?◌, if◌then◌otherwise◌, ite}
 use Rattle.record_exception.specs.declared.Level.{Level}
@@ -18,8 +19,6 @@ use Rattle.record_thread.specs.Thread.{with_level2}
 use Rattle.model.specs.declared.Route.{Route}
 use Rattle.model.specs.declared.Route.TheVariants.{Ordinary, JobDebuggers, DebuggerOnly}
 use Rattle.model.specs.declared.Route.TheVariants.{ToExiting, NoType}
-use Rattle.model.specs.declared.Handler.{Handler}
-use Rattle.model.specs.declared.Handler.TheVariants.{Nobody, HandlerAt}
 use Rattle.model.specs.Job.{on_parent}
 use Rattle.exception.specs.declared.Stage.{Stage}
 use Rattle.exception.specs.declared.Stage.TheVariants.{FromDebugger, FromThread, FromProcess}
@@ -112,7 +111,7 @@ abbrev pub job_place : Bool → ℕ → Place
 job_place true = λ j. OfJobDebugger j
 job_place false = λ j. OfJob j
 
-abbrev pub climbed : Handler → List Job → Climbed
+abbrev pub climbed : Option Place → List Job → Climbed
 climbed at jobs = record { at = at; jobs = jobs }
 
 -- the table with job j's level passed
@@ -121,24 +120,24 @@ passed_jobs debugger jobs j = set jobs j (passed_in debugger (get_or jobs j no_j
 
 -- from job j up: k jobs at most
 unfoldable pub climbing : ℕ → Bool → List Job → ℕ → Climbed
-climbing zero debugger jobs j = climbed Nobody jobs
+climbing zero debugger jobs j = climbed None jobs
 climbing (suc k) debugger jobs j =
     ite (is_bound (level_in debugger (get_or jobs j no_job)))
-    (λ _. climbed (HandlerAt (job_place debugger j)) jobs) λ _.
-    on_parent (get_or (passed_jobs debugger jobs j) j no_job).parent (climbed Nobody (passed_jobs debugger jobs j)) λ i.
+    (λ _. climbed (Some (job_place debugger j)) jobs) λ _.
+    on_parent (get_or (passed_jobs debugger jobs j) j no_job).parent (climbed None (passed_jobs debugger jobs j)) λ i.
     climbing k debugger (passed_jobs debugger jobs j) i
 
 -- ---- The search --------------------------------------------------------------------------------
 
-abbrev pub found : Handler → Thread → Process → List Job → Found
+abbrev pub found : Option Place → Thread → Process → List Job → Found
 found at v q jobs = record { at = at; thread = v; process = q; jobs = jobs }
 
 abbrev pub climbed_to : Climbed → Thread → Process → Found
 climbed_to c v q = found c.at v q c.jobs
 
 unfoldable pub onward : Goes → Sought → List Job → Found
-onward (To place) x jobs = found (HandlerAt place) x.thread x.process jobs
-onward Nowhere x jobs = found Nobody x.thread x.process jobs
+onward (To place) x jobs = found (Some place) x.thread x.process jobs
+onward Nowhere x jobs = found None x.thread x.process jobs
 onward (Up debugger j) x jobs = climbed_to (climbing 32 debugger jobs j) x.thread x.process
 
 unfoldable pub searched : Stage → Bool → Thread → Process → List Job → Found

@@ -8,37 +8,38 @@ ghost use Rattle.model.specs.ExceptionCalls.{raise_exception, close_exception};
 ghost use Rattle.model.specs.Job.{is_live_process};
 ghost use Rattle.exception.specs.Seek.{first_stage, above_stage, after_debugger, next_stage, sought};
 ghost use Rattle.exception.specs.Seek.{from_second_chance, from_process, from_thread, from_debugger, alone, seek};
-ghost use Rattle.exception.specs.Seek.{level_in, passed_in, job_place, climbing, onward, searched};
+ghost use Rattle.exception.specs.Seek.{level_in, passed_in, job_place, climbing, found, onward, searched};
 ghost use Rattle.exception.specs.Raise.{Raises, refused, shown, owner_in, waits_at, unheard, delivers};
 ghost use Rattle.exception.specs.Raise.{exits_to, is_stopped, raises, is_over, closes, own_process, kept};
 
 use error::{Refusal, ZxError};
-use model::{Handler, Route};
+use model::Route;
 use record_exception::{Exception, ExceptionType, Level, Place};
-use record_job::{Job, Parent};
+use record_job::Job;
 use record_process::{Process, Status};
-use record_thread::{FoundException, FoundThread, Thread, ThreadState, Waiting};
+use record_thread::{Thread, ThreadState, Waiting};
 use records::reading::job_in;
 use reply::Fields;
 
 // -- Where the search starts ------------------------------------------------------------------
 
 // The route of an exception type: one of the eleven, or none.
+#[tactic(auto, using(laws::proofs::Flow::branches), unfolding(model::specs::Exception::route_of, model::specs::Exception::is_hardware))]
 fn route_of(kind: u16) -> Route
     ensures { result ≡ route_of kind }
 {
     match kind {
-        0x0008 => Route::Ordinary,
-        0x0108 => Route::Ordinary,
-        0x0208 => Route::Ordinary,
-        0x0308 => Route::Ordinary,
-        0x0408 => Route::Ordinary,
-        0x0508 => Route::Ordinary,
-        0x8000 => Route::Ordinary,
-        0x8208 => Route::Ordinary,
-        0x8308 => Route::JobDebuggers,
-        0x8008 => Route::DebuggerOnly,
-        0x8108 => Route::ToExiting,
+        ExceptionType::GENERAL
+        | ExceptionType::FATAL_PAGE_FAULT
+        | ExceptionType::UNDEFINED_INSTRUCTION
+        | ExceptionType::SOFTWARE_BREAKPOINT
+        | ExceptionType::HARDWARE_BREAKPOINT
+        | ExceptionType::UNALIGNED_ACCESS
+        | ExceptionType::SYNTH
+        | ExceptionType::POLICY_ERROR => Route::Ordinary,
+        ExceptionType::PROCESS_STARTING => Route::JobDebuggers,
+        ExceptionType::THREAD_STARTING => Route::DebuggerOnly,
+        ExceptionType::THREAD_EXITING => Route::ToExiting,
         _ => Route::NoType,
     }
 }
@@ -47,13 +48,7 @@ fn route_of(kind: u16) -> Route
 fn is_no_type(route: Route) -> bool
     ensures { result ≡ is_no_type route }
 {
-    match route {
-        Route::Ordinary => false,
-        Route::JobDebuggers => false,
-        Route::DebuggerOnly => false,
-        Route::ToExiting => false,
-        Route::NoType => true,
-    }
+    matches!(route, Route::NoType)
 }
 
 // The handlers that are left.
@@ -72,6 +67,7 @@ enum Stage {
 }
 
 // What an exception just raised has before it.
+#[tactic(auto, using(laws::proofs::Flow::branches), unfolding(crate::specs::Seek::first_stage))]
 fn first_stage(route: Route, q: Process) -> Stage
     ensures { result ≡ first_stage route q }
 {
@@ -85,17 +81,18 @@ fn first_stage(route: Route, q: Process) -> Stage
 }
 
 // Level 4 of the jobs above one.
+#[tactic(auto, using(laws::proofs::Flow::branches), unfolding(crate::specs::Seek::above_stage, model::specs::Job::on_parent))]
 fn above_stage(w: Job) -> Stage
     ensures { result ≡ above_stage w }
 {
-    let parent = w.parent;
-    match parent {
-        Parent::Orphan => Stage::NobodyLeft,
-        Parent::ChildOf(i) => Stage::FromJob(false, i),
+    match w.parent {
+        None => Stage::NobodyLeft,
+        Some(i) => Stage::FromJob(false, i),
     }
 }
 
 // ThreadStarting goes to level 1 only.
+#[tactic(auto, using(laws::proofs::Flow::branches), unfolding(crate::specs::Seek::after_debugger))]
 fn after_debugger(kind: u16) -> Stage
     ensures { result ≡ after_debugger kind }
 {
@@ -106,18 +103,17 @@ fn after_debugger(kind: u16) -> Stage
 }
 
 // What an exception has before it that a handler closed without handling.
+#[tactic(auto, using(laws::proofs::Flow::branches), unfolding(crate::specs::Seek::next_stage))]
 fn next_stage(e: Exception, q: Process, jobs: [Job; 32]) -> Stage
     ensures { result ≡ next_stage e.place e q jobs }
 {
-    let place = e.place;
-    match place {
+    match e.place {
         Place::Debugger => after_debugger(e.kind),
         Place::OwnThread => Stage::FromProcess,
         Place::OwnProcess => Stage::FromSecondChance,
         Place::SecondChance => Stage::FromJob(false, q.job),
         Place::OfJob(j) => above_stage(job_in(jobs, j)),
-        Place::OfJobDebugger(_) => Stage::NobodyLeft,
-        Place::Exiting => Stage::NobodyLeft,
+        Place::OfJobDebugger(_) | Place::Exiting => Stage::NobodyLeft,
     }
 }
 
@@ -144,7 +140,7 @@ impl Sought {
         ensures { result ≡ sought goes v q }
     {
         Sought {
-            goes: goes,
+            goes,
             thread: v,
             process: q,
         }
@@ -152,60 +148,61 @@ impl Sought {
 }
 
 // The debugger again, if second chance is set now that level 3 is left.
+#[tactic(auto, using(laws::proofs::Flow::branches), unfolding(crate::specs::Seek::from_second_chance))]
 fn from_second_chance(v: Thread, q: Process, second: bool) -> Sought
     ensures { result ≡ from_second_chance v q second }
 {
     if !second {
         return Sought::new(Goes::Up(false, q.job), v, q);
     }
-    let level = q.level1;
-    if level.is_bound() {
+    if q.level1.is_bound() {
         return Sought::new(Goes::To(Place::SecondChance), v, q);
     }
-    Sought::new(Goes::Up(false, q.job), v, q.with_level1(level.tried()))
+    Sought::new(Goes::Up(false, q.job), v, q.with_level1(q.level1.tried()))
 }
 
+#[tactic(auto, using(laws::proofs::Flow::branches), unfolding(crate::specs::Seek::from_process))]
 fn from_process(v: Thread, q: Process, second: bool) -> Sought
     ensures { result ≡ from_process v q second }
 {
-    let level = q.level3;
-    if level.is_bound() {
+    if q.level3.is_bound() {
         return Sought::new(Goes::To(Place::OwnProcess), v, q);
     }
-    from_second_chance(v, q.with_level3(level.tried()), second)
+    from_second_chance(v, q.with_level3(q.level3.tried()), second)
 }
 
+#[tactic(auto, using(laws::proofs::Flow::branches), unfolding(crate::specs::Seek::from_thread))]
 fn from_thread(v: Thread, q: Process, second: bool) -> Sought
     ensures { result ≡ from_thread v q second }
 {
-    let level = v.level2;
-    if level.is_bound() {
+    if v.level2.is_bound() {
         return Sought::new(Goes::To(Place::OwnThread), v, q);
     }
-    from_process(v.with_level2(level.tried()), q, second)
+    from_process(v.with_level2(v.level2.tried()), q, second)
 }
 
+#[tactic(auto, using(laws::proofs::Flow::branches), unfolding(crate::specs::Seek::from_debugger))]
 fn from_debugger(v: Thread, q: Process, second: bool) -> Sought
     ensures { result ≡ from_debugger v q second }
 {
-    let level = q.level1;
-    if level.is_bound() {
+    if q.level1.is_bound() {
         return Sought::new(Goes::To(Place::Debugger), v, q);
     }
-    from_thread(v, q.with_level1(level.tried()), second)
+    from_thread(v, q.with_level1(q.level1.tried()), second)
 }
 
 // Level 1 and no other.
+#[tactic(auto, using(laws::proofs::Flow::branches), unfolding(crate::specs::Seek::alone))]
 fn alone(place: Place, v: Thread, q: Process) -> Sought
     ensures { result ≡ alone place v q }
 {
-    let level = q.level1;
-    if level.is_bound() {
+    if q.level1.is_bound() {
         return Sought::new(Goes::To(place), v, q);
     }
-    Sought::new(Goes::Nowhere, v, q.with_level1(level.tried()))
+    Sought::new(Goes::Nowhere, v, q.with_level1(q.level1.tried()))
 }
 
+#[tactic(auto, using(laws::proofs::Flow::branches), unfolding(crate::specs::Seek::seek))]
 fn seek(stage: Stage, second: bool, v: Thread, q: Process) -> Sought
     ensures { result ≡ seek stage second v q }
 {
@@ -227,24 +224,17 @@ fn seek(stage: Stage, second: bool, v: Thread, q: Process) -> Sought
 fn job_level(debugger: bool, v: Job) -> Level
     ensures { result ≡ level_in debugger v }
 {
-    let fourth = v.level4;
-    let fifth = v.level5;
-    if debugger {
-        return fifth;
-    }
-    fourth
+    if debugger { v.level5 } else { v.level4 }
 }
 
 // A job whose level was tried and passed.
 fn passed(debugger: bool, v: Job) -> Job
     ensures { result ≡ passed_in debugger v }
 {
-    let fourth = v.level4;
-    let fifth = v.level5;
     if debugger {
-        return v.with_level5(fifth.tried());
+        return v.with_level5(v.level5.tried());
     }
-    v.with_level4(fourth.tried())
+    v.with_level4(v.level4.tried())
 }
 
 fn job_place(debugger: bool, job: u8) -> Place
@@ -258,7 +248,7 @@ fn job_place(debugger: bool, job: u8) -> Place
 
 #[derive(Drop)]
 struct Climbed {
-    at: Handler,
+    at: Option<Place>,
     jobs: [Job; 32],
 }
 
@@ -267,40 +257,26 @@ fn climb(mut jobs: [Job; 32], debugger: bool, job: u8) -> Climbed
     ensures { result ≡ climbing 32 debugger jobs job }
 {
     let mut at = job;
-    for step in 0..32usize {
+    for _step in 0..32usize {
         if 32 <= at {
-            return Climbed {
-                at: Handler::Nobody,
-                jobs: jobs,
-            };
+            return Climbed { at: None, jobs };
         }
         let k = at as usize;
         let v = jobs[k];
         if job_level(debugger, v).is_bound() {
             return Climbed {
-                at: Handler::HandlerAt(job_place(debugger, at)),
-                jobs: jobs,
+                at: Some(job_place(debugger, at)),
+                jobs,
             };
         }
         let w = passed(debugger, v);
         jobs[k] = w;
-        let parent = w.parent;
-        match parent {
-            Parent::Orphan => {
-                return Climbed {
-                    at: Handler::Nobody,
-                    jobs: jobs,
-                };
-            }
-            Parent::ChildOf(p) => {
-                at = p;
-            }
-        }
+        let Some(p) = w.parent else {
+            return Climbed { at: None, jobs };
+        };
+        at = p;
     }
-    Climbed {
-        at: Handler::Nobody,
-        jobs: jobs,
-    }
+    Climbed { at: None, jobs }
 }
 
 // -- The search -------------------------------------------------------------------------------
@@ -308,47 +284,44 @@ fn climb(mut jobs: [Job; 32], debugger: bool, job: u8) -> Climbed
 // Who takes an exception, and the records with the levels passed.
 #[derive(Drop)]
 struct Found {
-    at: Handler,
+    at: Option<Place>,
     thread: Thread,
     process: Process,
     jobs: [Job; 32],
 }
 
+impl Sought {
+    // Who takes it, with the jobs as they are left.
+    fn found(self, at: Option<Place>, jobs: [Job; 32]) -> Found
+        ensures { result ≡ found at self.thread self.process jobs }
+    {
+        Found {
+            at,
+            thread: self.thread,
+            process: self.process,
+            jobs,
+        }
+    }
+}
+
 // On from the thread and its process to the jobs.
+#[tactic(auto, using(laws::proofs::Flow::branches), unfolding(crate::specs::Seek::onward))]
 fn onward(x: Sought, jobs: [Job; 32]) -> Found
     ensures { result ≡ onward x.goes x jobs }
 {
-    let goes = x.goes;
-    let v = x.thread;
-    let q = x.process;
-    match goes {
-        Goes::To(place) => Found {
-            at: Handler::HandlerAt(place),
-            thread: v,
-            process: q,
-            jobs: jobs,
-        },
-        Goes::Nowhere => Found {
-            at: Handler::Nobody,
-            thread: v,
-            process: q,
-            jobs: jobs,
-        },
+    match x.goes {
+        Goes::To(place) => x.found(Some(place), jobs),
+        Goes::Nowhere => x.found(None, jobs),
         Goes::Up(debugger, job) => {
-            let c = climb(jobs, debugger, job);
-            let at = c.at;
-            let left = c.jobs;
-            Found {
-                at: at,
-                thread: v,
-                process: q,
-                jobs: left,
-            }
+            let climbed = climb(jobs, debugger, job);
+            let passed = climbed.jobs;
+            x.found(climbed.at, passed)
         }
     }
 }
 
 // The next handler, of those that are left.
+#[tactic(auto, using(laws::proofs::Flow::branches), unfolding(crate::specs::Seek::searched))]
 fn search(stage: Stage, second: bool, v: Thread, q: Process, jobs: [Job; 32]) -> Found
     ensures { result ≡ searched stage second v q jobs }
 {
@@ -375,12 +348,12 @@ impl Raised {
         ensures { result ≡ refused v q jobs answer }
     {
         Raised {
-            answer: answer,
+            answer,
             fields: Fields::NoFields,
             exits: false,
             thread: v,
             process: q,
-            jobs: jobs,
+            jobs,
         }
     }
 
@@ -389,12 +362,12 @@ impl Raised {
         ensures { result ≡ shown answer owner v q jobs }
     {
         Raised {
-            answer: answer,
+            answer,
             fields: Fields::OwnerField(owner),
             exits: false,
             thread: v,
             process: q,
-            jobs: jobs,
+            jobs,
         }
     }
 
@@ -414,13 +387,9 @@ fn owner_in(v: Thread, thread: u8, place: Place) -> u8
     ensures { result ≡ owner_in v thread place }
 {
     match place {
-        Place::Debugger => v.process,
+        Place::Debugger | Place::OwnProcess | Place::SecondChance | Place::Exiting => v.process,
         Place::OwnThread => thread,
-        Place::OwnProcess => v.process,
-        Place::SecondChance => v.process,
-        Place::OfJob(j) => j,
-        Place::OfJobDebugger(j) => j,
-        Place::Exiting => v.process,
+        Place::OfJob(j) | Place::OfJobDebugger(j) => j,
     }
 }
 
@@ -437,17 +406,15 @@ fn waits_at(f: Found, place: Place, thread: u8, kind: u16, second: bool) -> Rais
 }
 
 // Made, and not Exited.
+#[tactic(auto, using(laws::proofs::Flow::branches), unfolding(model::specs::Job::is_live_process))]
 fn is_live(q: Process) -> bool
     ensures { result ≡ is_live_process q }
 {
-    let status = q.status;
-    if q.made {
-        return !status.is_exited();
-    }
-    false
+    q.made && !q.status.is_exited()
 }
 
 // Nobody handles it: types without the bit 0x8000 also exit the process.
+#[tactic(auto, using(laws::proofs::Flow::branches), unfolding(crate::specs::Raise::unheard))]
 fn unheard(f: Found, kind: u16) -> Raised
     ensures { result ≡ unheard f kind }
 {
@@ -468,21 +435,22 @@ fn unheard(f: Found, kind: u16) -> Raised
         exits: true,
         thread: w,
         process: marked,
-        jobs: jobs,
+        jobs,
     }
 }
 
+#[tactic(auto, using(laws::proofs::Flow::branches), unfolding(crate::specs::Raise::delivers))]
 fn deliver(f: Found, thread: u8, kind: u16, second: bool) -> Raised
     ensures { result ≡ delivers f.at f thread kind second }
 {
-    let at = f.at;
-    match at {
-        Handler::Nobody => unheard(f, kind),
-        Handler::HandlerAt(place) => waits_at(f, place, thread, kind, second),
+    match f.at {
+        None => unheard(f, kind),
+        Some(place) => waits_at(f, place, thread, kind, second),
     }
 }
 
 // ThreadExiting leaves the state; a killed thread sends it and is stopped.
+#[tactic(auto, using(laws::proofs::Flow::branches), unfolding(crate::specs::Raise::exits_to))]
 fn exits_to(f: Found, kind: u16) -> Raised
     ensures { result ≡ exits_to f.at f kind }
 {
@@ -490,7 +458,7 @@ fn exits_to(f: Found, kind: u16) -> Raised
     let v = f.thread;
     let q = f.process;
     let jobs = f.jobs;
-    let Handler::HandlerAt(place) = at else {
+    let Some(place) = at else {
         return Raised::shown(ZxError::NEXT, 0, v, q, jobs);
     };
     if v.killed {
@@ -504,6 +472,7 @@ fn exits_to(f: Found, kind: u16) -> Raised
 // -- The calls --------------------------------------------------------------------------------
 
 // A name past the table stands for a process never made.
+#[tactic(auto, using(laws::proofs::Flow::branches), unfolding(crate::specs::Raise::own_process))]
 fn own_process(process: u8, q: Process) -> Process
     ensures { result ≡ own_process process q }
 {
@@ -514,15 +483,14 @@ fn own_process(process: u8, q: Process) -> Process
 }
 
 // While Dying, types but ThreadExiting deliver nothing.
+#[tactic(auto, using(laws::proofs::Flow::branches), unfolding(crate::specs::Raise::is_stopped))]
 fn is_stopped(v: Thread, kind: u16) -> bool
     ensures { result ≡ is_stopped v kind }
 {
-    if kind == ExceptionType::THREAD_EXITING {
-        return false;
-    }
-    v.state == ThreadState::DYING
+    kind != ExceptionType::THREAD_EXITING && v.state == ThreadState::DYING
 }
 
+#[tactic(auto, using(laws::proofs::Flow::branches), unfolding(crate::specs::Raise::raises))]
 fn raise(thread: u8, kind: u16, route: Route, v: Thread, q: Process, jobs: [Job; 32]) -> Raised
     ensures { result ≡ raises thread kind route v q jobs }
 {
@@ -547,7 +515,7 @@ pub fn handle_exception(thread: u8, kind: u16, v: Thread, q: Process, jobs: [Job
     if 128 <= thread {
         return Raised::refused(v, q, jobs, Refusal::PAST_TABLE);
     }
-    let FoundThread::OldThread(w) = v.found() else {
+    let Some(w) = v.found() else {
         return Raised::refused(v, q, jobs, Refusal::NOT_MADE);
     };
     if !w.is_free() {
@@ -558,24 +526,14 @@ pub fn handle_exception(thread: u8, kind: u16, v: Thread, q: Process, jobs: [Job
 }
 
 // ProcessStarting and ThreadExiting are over at their first closing.
+#[tactic(auto, using(laws::proofs::Flow::branches), unfolding(crate::specs::Raise::is_over))]
 fn is_over(e: Exception) -> bool
     ensures { result ≡ is_over e }
 {
-    if e.handled {
-        return true;
-    }
-    let place = e.place;
-    match place {
-        Place::Debugger => false,
-        Place::OwnThread => false,
-        Place::OwnProcess => false,
-        Place::SecondChance => false,
-        Place::OfJob(_) => false,
-        Place::OfJobDebugger(_) => true,
-        Place::Exiting => true,
-    }
+    e.handled || matches!(e.place, Place::OfJobDebugger(_) | Place::Exiting)
 }
 
+#[tactic(auto, using(laws::proofs::Flow::branches), unfolding(crate::specs::Raise::closes))]
 fn close_held(thread: u8, e: Exception, v: Thread, q: Process, jobs: [Job; 32]) -> Raised
     ensures { result ≡ closes thread e v q jobs }
 {
@@ -593,10 +551,10 @@ pub fn close(thread: u8, v: Thread, q: Process, jobs: [Job; 32]) -> Raised
     if 128 <= thread {
         return Raised::refused(v, q, jobs, Refusal::PAST_TABLE);
     }
-    let FoundThread::OldThread(w) = v.found() else {
+    let Some(w) = v.found() else {
         return Raised::refused(v, q, jobs, Refusal::NOT_MADE);
     };
-    let FoundException::Held(e) = w.exception() else {
+    let Some(e) = w.exception() else {
         return Raised::refused(v, q, jobs, Refusal::OUT_OF_TURN);
     };
     let own = own_process(v.process, q);

@@ -7,48 +7,66 @@ ghost use Rattle.std.specs.Prelude.{◌≡◌};
 ghost use Rattle.model.specs.ExceptionCalls.{bind_level, hang_up_level, raise_exception, close_exception};
 ghost use Rattle.model.specs.ExceptionCalls.{set_state, set_strategy, get_process_handle};
 ghost use Rattle.exception.specs.Raise.{raised_in};
-ghost use Rattle.exceptionate.specs.Exceptionate.{on_level, of_process, of_job, moved_job};
+ghost use Rattle.thread.specs.Move.{settled};
+ghost use Rattle.exceptionate.specs.Exceptionate.{on_level, of_process, settled_process, of_job, settled_job};
 
 use error::Refusal;
 use exception::Raised;
-use exceptionate::{ChannelCall, JobMove};
+use exceptionate::ChannelCall;
+use record_job::Job;
+use record_process::Process;
 use record_thread::Thread;
 use records::reading::{job_at, process_at, thread_at};
 use records::tables::Tables;
 use reply::Reply;
+
+// -- What a call left, stored where the record was ---------------------------------------------
+
+#[tactic(auto, unfolding(thread::specs::Move::settled))]
+fn thread_settled(t: Tables, thread: u8, v: Thread, done: Result<(), Refusal>) -> Reply
+    ensures { result ≡ settled t thread v done }
+{
+    Reply::answered(t.with_thread(thread % 128, v), error::answer_of(done))
+}
+
+#[tactic(auto, unfolding(exceptionate::specs::Exceptionate::settled_process))]
+fn process_settled(t: Tables, process: u8, q: Process, done: Result<(), Refusal>) -> Reply
+    ensures { result ≡ settled_process t process q done }
+{
+    Reply::answered(t.with_process(process % 64, q), error::answer_of(done))
+}
+
+#[tactic(auto, unfolding(exceptionate::specs::Exceptionate::settled_job))]
+fn job_settled(t: Tables, job: u8, j: Job, done: Result<(), Refusal>) -> Reply
+    ensures { result ≡ settled_job t job j done }
+{
+    Reply::answered(t.with_job(job % 32, j), error::answer_of(done))
+}
 
 // -- Channels: the level picks the table -------------------------------------------------------
 
 fn on_thread(call: ChannelCall, t: Tables, thread: u8) -> Reply
     ensures { result ≡ on_level call t 2 thread }
 {
-    let v = thread_at(t, thread % 128);
-    thread_calls::moved(t, thread, exceptionate::on_thread(call, thread, v))
+    let mut v = thread_at(t, thread % 128);
+    let done = exceptionate::on_thread(call, thread, &mut v);
+    thread_settled(t, thread, v, done)
 }
 
 fn on_process(call: ChannelCall, t: Tables, debugger: bool, process: u8) -> Reply
     ensures { result ≡ on_level call t (of_process debugger) process }
 {
-    let q = process_at(t, process % 64);
-    process_calls::moved(
-        t,
-        process,
-        exceptionate::on_process(call, debugger, process, q),
-    )
-}
-
-fn job_moved(t: Tables, job: u8, m: JobMove) -> Reply
-    ensures { result ≡ moved_job t job m }
-{
-    let j = m.job;
-    Reply::answered(t.with_job(job % 32, j), m.answer)
+    let mut q = process_at(t, process % 64);
+    let done = exceptionate::on_process(call, debugger, process, &mut q);
+    process_settled(t, process, q, done)
 }
 
 fn on_job(call: ChannelCall, t: Tables, debugger: bool, job: u8) -> Reply
     ensures { result ≡ on_level call t (of_job debugger) job }
 {
-    let j = job_at(t, job % 32);
-    job_moved(t, job, exceptionate::on_job(call, debugger, job, j))
+    let mut j = job_at(t, job % 32);
+    let done = exceptionate::on_job(call, debugger, job, &mut j);
+    job_settled(t, job, j, done)
 }
 
 // A level outside 1 to 5 is refused before the owner is looked at.
@@ -130,16 +148,18 @@ pub fn close(t: Tables, thread: u8) -> Reply
 pub fn set_state(t: Tables, thread: u8, state: u32) -> Reply
     ensures { result ≡ set_state t thread state }
 {
-    let v = thread_at(t, thread % 128);
-    thread_calls::moved(t, thread, exceptionate::set_state(thread, v, state))
+    let mut v = thread_at(t, thread % 128);
+    let done = exceptionate::set_state(thread, &mut v, state);
+    thread_settled(t, thread, v, done)
 }
 
 // 17: `ExceptionObject::set_strategy`.
 pub fn set_strategy(t: Tables, thread: u8, strategy: u32) -> Reply
     ensures { result ≡ set_strategy t thread strategy }
 {
-    let v = thread_at(t, thread % 128);
-    thread_calls::moved(t, thread, exceptionate::set_strategy(thread, v, strategy))
+    let mut v = thread_at(t, thread % 128);
+    let done = exceptionate::set_strategy(thread, &mut v, strategy);
+    thread_settled(t, thread, v, done)
 }
 
 // 18: `ExceptionObject::get_process_handle`.
@@ -147,5 +167,6 @@ pub fn get_process_handle(t: Tables, thread: u8) -> Reply
     ensures { result ≡ get_process_handle t thread }
 {
     let v = thread_at(t, thread % 128);
-    thread_calls::moved(t, thread, exceptionate::get_process_handle(thread, v))
+    let done = exceptionate::get_process_handle(thread, v);
+    thread_settled(t, thread, v, done)
 }

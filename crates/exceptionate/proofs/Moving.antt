@@ -1,164 +1,174 @@
--- How a `return` of a function over a level, or over the record that has it, meets a call's definition.
---     refused, sets, level_looked_up       the ladder: `search ladder` closes it
---     thread_refused, thread_set, ..       a record, by way of the ladder
+-- How a `return` of a call on a channel meets the call's definition, whosever level it is.
+--     Channel                          a level that was looked up: its number, its owner, and what was found
+--     past, unmade, refused, set       the ways out of a call on it
+--     channel_of_thread, ..            the owners
 -- Assumes nothing.
-use Prim.Native.Nat.{ℕ, ◌%◌, ◌<◌}
+use Rattle.std.proofs.Common.{Option, Some, None, Result, Ok, Err}
+use Prim.Native.Nat.{ℕ, ◌%◌, ◌<◌, ◌≤◌}
 use native.Mathlib.Nat.{mod-eq_of_lt}
-use native.Mathlib.Omega.{arith}
-use mathlib.Core.Path.{◌≡◌, refl, subst, sym, ◌∙◌}
+use mathlib.Core.Path.{◌≡◌, refl, ap, sym, ◌∙◌}
 use mathlib.Core.Bool.{Bool, true, false}
-use lib.IntN.{ℤ, pos}
+use lib.IntN.{pos}
 use Rattle.laws.specs.Choice.{if◌then◌otherwise◌, ◌or◌}
+use Rattle.error.specs.declared.Refusal.{Refusal}
+use Rattle.error.specs.Numbers.{number_of}
 use Rattle.record_exception.specs.declared.Level.{Level}
+use Rattle.record_exception.specs.declared.Level.TheVariants.{Unbound, Bound, HungUp, Shut}
 use Rattle.record_job.specs.declared.Job.{Job}
-use Rattle.record_job.specs.Job.{found_job_in}
+use Rattle.record_job.specs.Job.{found_job_in, with_level4, with_level5}
 use Rattle.record_process.specs.declared.Process.{Process}
-use Rattle.record_process.specs.Process.{found_process_in}
+use Rattle.record_process.specs.Process.{found_process_in, with_level1, with_level3}
 use Rattle.record_thread.specs.declared.Thread.{Thread}
 use Rattle.record_thread.specs.Thread.{found_thread_in, with_level2}
 use Rattle.records.specs.declared.tables.Tables.{Tables}
-use Rattle.records.specs.Tables.{job_at, process_at, thread_at, put_job, put_process}
+use Rattle.records.specs.Tables.{job_at, process_at, thread_at}
 use Rattle.records.specs.Tables.{found_job, found_process, found_thread}
-use Rattle.records.proofs.Kept.{job_kept, process_kept, thread_kept}
+use Rattle.records.specs.Owners.{owners_of, found_level, put_level, level_of_thread, level_of_process, level_of_job}
+use Rattle.records.specs.Owners.{process_level, job_level}
+use Rattle.records.proofs.Kept.{job_kept, process_kept, job_at_lem, process_at_lem, thread_at_lem}
 use Rattle.reply.specs.declared.Reply.{Reply}
 use Rattle.reply.specs.Reply.{answered}
-use Rattle.records.specs.declared.owners.FoundLevel.{FoundLevel}
-use Rattle.records.specs.Owners.{owners_of, found_level, put_level, level_of_thread, level_of_process, level_of_job}
-use Rattle.model.specs.ExceptionCalls.{bad_level}
+use Rattle.model.specs.ExceptionCalls.{bad_level, bind_level, hang_up_level}
 use Rattle.model.proofs.Answering.{answering}
-use Rattle.thread.specs.declared.Move.{Move}
-use Rattle.thread.specs.Move as thread
-use Rattle.process.specs.declared.Move as of-processes
-use Rattle.process.specs.Process as process
+use Rattle.thread.specs.Move.{settled}
+use Rattle.thread.proofs.Moving.{settles_stored}
 use Rattle.exceptionate.specs.declared.ChannelCall.{ChannelCall}
-use Rattle.exceptionate.specs.declared.LevelMove.{LevelMove}
-use Rattle.exceptionate.specs.declared.LevelMove.TheVariants.{Refused, Set}
-use Rattle.exceptionate.specs.declared.JobMove.{JobMove}
-use Rattle.exceptionate.specs.Exceptionate.{on_level, slot_of, leveled, OnLevel, of_process, of_job}
-use Rattle.exceptionate.specs.Exceptionate.{with_process_level, with_job_level, job_move, moved_job}
+use Rattle.exceptionate.specs.declared.ChannelCall.TheVariants.{CreateChannel, HangUp}
+use Rattle.exceptionate.specs.Exceptionate.{on_level, level_after, of_process, of_job, settled_process, settled_job}
 
--- ---- The ladder ----------------------------------------------------------------------------------
+-- owner n's level of this number, of `size` owners, was looked up as g
+pub record Channel (t : Tables) (level n size : ℕ) (g : Option Level) : Type 0 where
+  good : bad_level level ≡ false
+  owners : owners_of level ≡ size
+  looked_up : n < size → g ≡ found_level t level n
 
-pub refused : (t : Tables) (level n : ℕ) (c : ℤ) → leveled t level n (Refused c) ≡ answered t c
-unfolding leveled
-refused t level n c = refl
+-- what the call makes of a level, stored where it was
+leveled : Tables → (level n : ℕ) → Result Level Refusal → Reply
+leveled t level n (Ok l) = answered (put_level t level n l) (pos 0)
+leveled t level n (Err e) = answered t (number_of e)
 
-within : {a b n : ℕ} → a ≡ b → n < a → n % b ≡ n
-within {a} {b} {n} p h = let k : n < b = omega arith in mod-eq_of_lt k
+made : (call : ChannelCall) (t : Tables) (level n : ℕ) (l : Level) {g : Option Level} → bad_level level ≡ false →
+    n < owners_of level → g ≡ found_level t level n → g ≡ Some l →
+    leveled t level n (level_after call l) ≡ on_level call t level n
+unfolding leveled on_level bind_level hang_up_level
+made CreateChannel t level n Unbound b k f g = search answering depth 20
+made CreateChannel t level n Bound b k f g = search answering depth 20
+made CreateChannel t level n HungUp b k f g = search answering depth 20
+made CreateChannel t level n Shut b k f g = search answering depth 20
+made HangUp t level n Unbound b k f g = search answering depth 20
+made HangUp t level n Bound b k f g = search answering depth 20
+made HangUp t level n HungUp b k f g = search answering depth 20
+made HangUp t level n Shut b k f g = search answering depth 20
 
-pub sets : {a : ℕ} (t : Tables) (level n : ℕ) (l : Level) → a ≡ owners_of level → n < a →
-    leveled t level n (Set l) ≡ answered (put_level t level n l) (pos 0)
-unfolding leveled
-sets t level n l p h = rw (within p h)
+ends : (call : ChannelCall) (t : Tables) (level n : ℕ) {x : Reply} → bad_level level ≡ false → owners_of level ≤ n →
+    x ≡ answered t (pos 101) → x ≡ on_level call t level n
+unfolding on_level bind_level hang_up_level
+ends CreateChannel t level n b k e = search answering depth 20
+ends HangUp t level n b k e = search answering depth 20
 
-pub level_looked_up : {a : ℕ} {g : FoundLevel} (t : Tables) (level n : ℕ) →
-    found_level t level (slot_of level n) ≡ g → a ≡ owners_of level → n < a → g ≡ found_level t level n
-level_looked_up t level n e p h = sym e ∙ rw (within p h)
+absent : (call : ChannelCall) (t : Tables) (level n : ℕ) {g : Option Level} {x : Reply} → bad_level level ≡ false →
+    n < owners_of level → g ≡ found_level t level n → g ≡ None → x ≡ answered t (pos 103) → x ≡ on_level call t level n
+unfolding on_level bind_level hang_up_level
+absent CreateChannel t level n b k f g e = search answering depth 20
+absent HangUp t level n b k f g e = search answering depth 20
 
-pub ruleset ladder = (answering, refused, sets, level_looked_up)
+-- the ways out of a call on it
+module _ (call : ChannelCall) {t : Tables} {level n size : ℕ} {g : Option Level} (o : Channel t level n size g) {x : Reply} where
+  pub past : size ≤ n → x ≡ answered t (pos 101) → x ≡ on_level call t level n
+  past k e = ends call t level n o.good (rw o.owners k) e
+
+  pub unmade : n < size → None ≡ g → x ≡ answered t (pos 103) → x ≡ on_level call t level n
+  unmade k i e = absent call t level n o.good (rw o.owners k) (o.looked_up k) (sym i) e
+
+  pub refused : {l : Level} {e : Refusal} → n < size → Some l ≡ g → level_after call l ≡ Err e →
+      x ≡ answered t (number_of e) → x ≡ on_level call t level n
+  unfolding leveled
+  refused {l} k i r e = e ∙ rw r at (made call t level n l o.good (rw o.owners k) (o.looked_up k) (sym i))
+
+  pub set : {l m : Level} → n < size → Some l ≡ g → level_after call l ≡ Ok m →
+      x ≡ answered (put_level t level n m) (pos 0) → x ≡ on_level call t level n
+  unfolding leveled
+  set {l} k i r e = e ∙ rw r at (made call t level n l o.good (rw o.owners k) (o.looked_up k) (sym i))
 
 -- ---- A thread's level ------------------------------------------------------------------------------
 
-module _ (f : Tables → Reply) (t : Tables) (n : ℕ) {v : Thread} {g : FoundLevel}
-    (m : LevelMove) (o : OnLevel f 2 n g m) (e : g ≡ level_of_thread (found_thread_in v))
-    (h : thread_at t (n % 128) ≡ v) where
-  of_thread : leveled t 2 n m ≡ f t
-  unfolding found_level owners_of found_thread found_thread_in if◌then◌otherwise◌ ◌or◌
-  of_thread = o t refl (rw h (sym e))
+pub channel_of_thread : {v : Thread} (t : Tables) (n : ℕ) → thread_at t (n % 128) ≡ v →
+    Channel t 2 n 128 (level_of_thread (found_thread_in v))
+unfolding owners_of found_level found_thread found_thread_in if◌then◌otherwise◌ ◌or◌
+channel_of_thread {v} t n h = record {
+  good = refl;
+  owners = refl;
+  looked_up = λ k. rw (thread_at_lem t n k h) refl;
+}
 
-  pub thread_refused : {c : ℤ} {r : Move} → m ≡ Refused c → r ≡ thread.move v c → thread.moved t n r ≡ f t
-  unfolding thread.moved
-  thread_refused {c} d k = rw (k, thread_kept t (n % 128) h) (sym (refused t 2 n c) ∙ rw (← d) of_thread)
+pub thread_put : {u v : Thread} (t : Tables) (n : ℕ) (l : Level) → n < 128 → thread_at t (n % 128) ≡ v →
+    u ≡ with_level2 v l → settled t n u (Ok tt) ≡ answered (put_level t 2 n l) (pos 0)
+unfolding put_level if◌then◌otherwise◌
+thread_put t n l k h e =
+    settles_stored t n _ (e ∙ ap (λ (w : Thread). with_level2 w l) (sym (thread_at_lem t n k h))) k
 
-  pub thread_set : {l : Level} {r : Move} → m ≡ Set l → r ≡ thread.move (with_level2 v l) (pos 0) →
-      thread.moved t n r ≡ f t
-  unfolding thread.moved leveled owners_of put_level if◌then◌otherwise◌
-  thread_set {l} d k = rw k (rw (d, h) at of_thread)
+-- ---- A process's two levels -------------------------------------------------------------------------------
 
--- ---- A process's two levels ---------------------------------------------------------------------------
+pub process_refused : (t : Tables) (n : ℕ) {q : Process} (e : Refusal) → process_at t (n % 64) ≡ q →
+    settled_process t n q (Err e) ≡ answered t (number_of e)
+unfolding settled_process
+process_refused t n e h = rw (process_kept t (n % 64) h)
 
-process_good : (d : Bool) → bad_level (of_process d) ≡ false
-unfolding of_process if◌then◌otherwise◌ ◌or◌
-process_good true = refl
-process_good false = refl
+-- the debugger's, and the own
+pub process_debugger : (d : Bool) (q : Process) → d ≡ true → q.level1 ≡ process_level q (of_process d)
+unfolding of_process process_level if◌then◌otherwise◌
+process_debugger d q e = rw e
 
-process_owners : (d : Bool) → owners_of (of_process d) ≡ 64
-unfolding of_process owners_of if◌then◌otherwise◌
-process_owners true = refl
-process_owners false = refl
+pub process_own : (d : Bool) (q : Process) → d ≡ false → q.level3 ≡ process_level q (of_process d)
+unfolding of_process process_level if◌then◌otherwise◌
+process_own d q e = rw e
 
-process_found : (d : Bool) (t : Tables) (p : ℕ) →
-    found_level t (of_process d) p ≡ level_of_process (found_process_in (process_at t p)) (of_process d)
-unfolding of_process found_level found_process found_process_in if◌then◌otherwise◌
-process_found true t p = refl
-process_found false t p = refl
+pub channel_of_process : (d : Bool) {q : Process} (t : Tables) (n : ℕ) → process_at t (n % 64) ≡ q →
+    Channel t (of_process d) n 64 (level_of_process (found_process_in q) (of_process d))
+unfolding of_process owners_of found_level found_process found_process_in if◌then◌otherwise◌ ◌or◌
+channel_of_process true t n h = record { good = refl; owners = refl; looked_up = λ k. rw (process_at_lem t n k h) refl }
+channel_of_process false t n h = record { good = refl; owners = refl; looked_up = λ k. rw (process_at_lem t n k h) refl }
 
-process_put : (d : Bool) (t : Tables) (p : ℕ) (l : Level) →
-    put_level t (of_process d) p l ≡ put_process t p (with_process_level d (process_at t p) l)
-unfolding of_process with_process_level put_level if◌then◌otherwise◌
-process_put true t p l = refl
-process_put false t p l = refl
+module _ (d : Bool) (t : Tables) (n : ℕ) {q : Process} (h : process_at t (n % 64) ≡ q) where
+  pub process_debugger_put : {u : Process} (l : Level) → d ≡ true → n < 64 → u ≡ with_level1 q l →
+      settled_process t n u (Ok tt) ≡ answered (put_level t (of_process d) n l) (pos 0)
+  unfolding of_process settled_process put_level if◌then◌otherwise◌
+  process_debugger_put l b k e = rw (b, e, ← process_at_lem t n k h, mod-eq_of_lt k)
 
-module _ (call : ChannelCall) (d : Bool) (t : Tables) (p : ℕ) {q : Process} {g : FoundLevel}
-    {level : ℕ} (m : LevelMove) (o : OnLevel (λ u. on_level call u level p) level p g m)
-    (i : level ≡ of_process d) (e : g ≡ level_of_process (found_process_in q) (of_process d))
-    (h : process_at t (p % 64) ≡ q) where
-  of_process_lem : leveled t (of_process d) p m ≡ on_level call t (of_process d) p
-  of_process_lem =
-      let same = subst (λ (l : ℕ). OnLevel (λ u. on_level call u l p) l p g m) i o in
-      same t (process_good d) (rw (process_owners, process_found, h) (sym e))
+  pub process_own_put : {u : Process} (l : Level) → d ≡ false → n < 64 → u ≡ with_level3 q l →
+      settled_process t n u (Ok tt) ≡ answered (put_level t (of_process d) n l) (pos 0)
+  unfolding of_process settled_process put_level if◌then◌otherwise◌
+  process_own_put l b k e = rw (b, e, ← process_at_lem t n k h, mod-eq_of_lt k)
 
-  pub process_refused : {c : ℤ} {r : of-processes.Move} → m ≡ Refused c → r ≡ process.move q c →
-      process.moved t p r ≡ on_level call t (of_process d) p
-  unfolding process.moved
-  process_refused {c} b k =
-      rw (k, process_kept t (p % 64) h) (sym (refused t (of_process d) p c) ∙ rw (← b) of_process_lem)
+-- ---- A job's two levels -------------------------------------------------------------------------------
 
-  pub process_set : {l : Level} {r : of-processes.Move} → m ≡ Set l →
-      r ≡ process.move (with_process_level d q l) (pos 0) → process.moved t p r ≡ on_level call t (of_process d) p
-  unfolding process.moved leveled
-  process_set {l} b k = rw k (rw (b, process_owners, process_put, h) at of_process_lem)
+pub job_refused : (t : Tables) (n : ℕ) {j : Job} (e : Refusal) → job_at t (n % 32) ≡ j →
+    settled_job t n j (Err e) ≡ answered t (number_of e)
+unfolding settled_job
+job_refused t n e h = rw (job_kept t (n % 32) h)
 
--- ---- A job's two levels ---------------------------------------------------------------------------
+-- the debugger's, and the own
+pub job_debugger : (d : Bool) (j : Job) → d ≡ true → j.level5 ≡ job_level j (of_job d)
+unfolding of_job job_level if◌then◌otherwise◌
+job_debugger d j e = rw e
 
-job_good : (d : Bool) → bad_level (of_job d) ≡ false
-unfolding of_job if◌then◌otherwise◌ ◌or◌
-job_good true = refl
-job_good false = refl
+pub job_own : (d : Bool) (j : Job) → d ≡ false → j.level4 ≡ job_level j (of_job d)
+unfolding of_job job_level if◌then◌otherwise◌
+job_own d j e = rw e
 
-job_owners : (d : Bool) → owners_of (of_job d) ≡ 32
-unfolding of_job owners_of if◌then◌otherwise◌
-job_owners true = refl
-job_owners false = refl
+pub channel_of_job : (d : Bool) {j : Job} (t : Tables) (n : ℕ) → job_at t (n % 32) ≡ j →
+    Channel t (of_job d) n 32 (level_of_job (found_job_in j) (of_job d))
+unfolding of_job owners_of found_level found_job found_job_in if◌then◌otherwise◌ ◌or◌
+channel_of_job true t n h = record { good = refl; owners = refl; looked_up = λ k. rw (job_at_lem t n k h) refl }
+channel_of_job false t n h = record { good = refl; owners = refl; looked_up = λ k. rw (job_at_lem t n k h) refl }
 
-job_found : (d : Bool) (t : Tables) (n : ℕ) →
-    found_level t (of_job d) n ≡ level_of_job (found_job_in (job_at t n)) (of_job d)
-unfolding of_job found_level found_job found_job_in if◌then◌otherwise◌
-job_found true t n = refl
-job_found false t n = refl
+module _ (d : Bool) (t : Tables) (n : ℕ) {j : Job} (h : job_at t (n % 32) ≡ j) where
+  pub job_debugger_put : {u : Job} (l : Level) → d ≡ true → n < 32 → u ≡ with_level5 j l →
+      settled_job t n u (Ok tt) ≡ answered (put_level t (of_job d) n l) (pos 0)
+  unfolding of_job settled_job put_level if◌then◌otherwise◌
+  job_debugger_put l b k e = rw (b, e, ← job_at_lem t n k h, mod-eq_of_lt k)
 
-job_put : (d : Bool) (t : Tables) (n : ℕ) (l : Level) →
-    put_level t (of_job d) n l ≡ put_job t n (with_job_level d (job_at t n) l)
-unfolding of_job with_job_level put_level if◌then◌otherwise◌
-job_put true t n l = refl
-job_put false t n l = refl
-
-module _ (call : ChannelCall) (d : Bool) (t : Tables) (n : ℕ) {j : Job} {g : FoundLevel}
-    {level : ℕ} (m : LevelMove) (o : OnLevel (λ u. on_level call u level n) level n g m)
-    (i : level ≡ of_job d) (e : g ≡ level_of_job (found_job_in j) (of_job d))
-    (h : job_at t (n % 32) ≡ j) where
-  of_job_lem : leveled t (of_job d) n m ≡ on_level call t (of_job d) n
-  of_job_lem =
-      let same = subst (λ (l : ℕ). OnLevel (λ u. on_level call u l n) l n g m) i o in
-      same t (job_good d) (rw (job_owners, job_found, h) (sym e))
-
-  pub job_refused : {c : ℤ} {r : JobMove} → m ≡ Refused c → r ≡ job_move j c →
-      moved_job t n r ≡ on_level call t (of_job d) n
-  unfolding moved_job
-  job_refused {c} b k =
-      rw (k, job_kept t (n % 32) h) (sym (refused t (of_job d) n c) ∙ rw (← b) of_job_lem)
-
-  pub job_set : {l : Level} {r : JobMove} → m ≡ Set l → r ≡ job_move (with_job_level d j l) (pos 0) →
-      moved_job t n r ≡ on_level call t (of_job d) n
-  unfolding moved_job leveled
-  job_set {l} b k = rw k (rw (b, job_owners, job_put, h) at of_job_lem)
+  pub job_own_put : {u : Job} (l : Level) → d ≡ false → n < 32 → u ≡ with_level4 j l →
+      settled_job t n u (Ok tt) ≡ answered (put_level t (of_job d) n l) (pos 0)
+  unfolding of_job settled_job put_level if◌then◌otherwise◌
+  job_own_put l b k e = rw (b, e, ← job_at_lem t n k h, mod-eq_of_lt k)

@@ -1,47 +1,46 @@
--- The calls on a level, over the record that has it: what a call gives, stored where the record was, is what the model
+-- The calls on a level, over the record that has it: what a call leaves, stored where the record was, is what the model
 -- says of the call, whatever else the tables hold.
-use Rattle.std.specs.Prelude.{ℕ, ◌%◌, ◌≡◌, Bool, false, ℤ, pos}
+use Rattle.std.specs.Prelude.{Result, Ok, Err}
+use Rattle.std.specs.Prelude.{ℕ, ◌%◌, ◌≡◌, Bool}
 use Rattle.laws.specs.Choice.{if◌then◌otherwise◌}
+use Rattle.error.specs.declared.Refusal.{Refusal}
+use Rattle.error.specs.declared.Refusal.TheVariants.{OutOfTurn, Zx}
+use Rattle.error.specs.declared.ZxError.TheVariants.{BadState, AlreadyBound}
+use Rattle.error.specs.Numbers.{answer_of}
 use Rattle.record_exception.specs.declared.Level.{Level}
+use Rattle.record_exception.specs.declared.Level.TheVariants.{Unbound, Bound, HungUp, Shut}
 use Rattle.record_job.specs.declared.Job.{Job}
-use Rattle.record_job.specs.Job.{with_level4, with_level5}
 use Rattle.record_process.specs.declared.Process.{Process}
-use Rattle.record_process.specs.Process.{with_level1, with_level3}
 use Rattle.records.specs.declared.tables.Tables.{Tables}
-use Rattle.records.specs.Tables.{job_at, process_at, put_job}
+use Rattle.records.specs.Tables.{job_at, process_at, put_job, put_process}
 use Rattle.reply.specs.declared.Reply.{Reply}
 use Rattle.reply.specs.Reply.{answered}
-use Rattle.records.specs.declared.owners.FoundLevel.{FoundLevel}
-use Rattle.records.specs.Owners.{owners_of, found_level, put_level}
-use Rattle.model.specs.ExceptionCalls.{bad_level, bind_level, hang_up_level}
-use Rattle.process.specs.declared.Move.{Move}
-use Rattle.process.specs.Process.{moved}
+use Rattle.model.specs.ExceptionCalls.{bind_level, hang_up_level}
 use Rattle.exceptionate.specs.declared.ChannelCall.{ChannelCall}
 use Rattle.exceptionate.specs.declared.ChannelCall.TheVariants.{CreateChannel, HangUp}
-use Rattle.exceptionate.specs.declared.LevelMove.{LevelMove}
-use Rattle.exceptionate.specs.declared.LevelMove.TheVariants.{Refused, Set}
-use Rattle.exceptionate.specs.declared.JobMove.{JobMove}
 
 -- 12 and 13
 unfoldable pub on_level : ChannelCall → Tables → (level n : ℕ) → Reply
 on_level CreateChannel t level n = bind_level t level n
 on_level HangUp t level n = hang_up_level t level n
 
--- ---- The ladder, over a level that was looked up -----------------------------------------------------
+-- ---- What a call makes of a level that was looked up -------------------------------------------------
 
--- where an owner is looked up: every name has a place in the table, and one past it is refused
-abbrev pub slot_of : (level n : ℕ) → ℕ
-slot_of level n = n % owners_of level
+abbrev pub created : Level → Result Level Refusal
+created Unbound = Ok Bound
+created Bound = Err (Zx AlreadyBound)
+created HungUp = Ok Bound
+created Shut = Err (Zx BadState)
 
--- the reply that a move of a level stands for
-unfoldable pub leveled : Tables → (level n : ℕ) → LevelMove → Reply
-leveled t level n (Refused c) = answered t c
-leveled t level n (Set l) = answered (put_level t level (slot_of level n) l) (pos 0)
+abbrev pub hung_up : Level → Result Level Refusal
+hung_up Unbound = Err OutOfTurn
+hung_up Bound = Ok HungUp
+hung_up HungUp = Err OutOfTurn
+hung_up Shut = Err OutOfTurn
 
--- the call f on this level of owner n, looked up as g, comes to the move m
-abbrev pub OnLevel : (Tables → Reply) → (level n : ℕ) → FoundLevel → LevelMove → Type 0
-OnLevel f level n g m =
-    (t : Tables) → bad_level level ≡ false → found_level t level (slot_of level n) ≡ g → leveled t level n m ≡ f t
+abbrev pub level_after : ChannelCall → Level → Result Level Refusal
+level_after CreateChannel l = created l
+level_after HangUp l = hung_up l
 
 -- ---- A process's two levels, and a job's -------------------------------------------------------------
 
@@ -52,22 +51,18 @@ of_process debugger = if debugger then 1 otherwise 3
 unfoldable pub of_job : Bool → ℕ
 of_job debugger = if debugger then 5 otherwise 4
 
-unfoldable pub with_process_level : Bool → Process → Level → Process
-with_process_level debugger q l = if debugger then with_level1 q l otherwise with_level3 q l
+-- the reply that the process w and this outcome stand for
+unfoldable pub settled_process : Tables → ℕ → Process → Result Unit Refusal → Reply
+settled_process t p w r = answered (put_process t (p % 64) w) (answer_of r)
 
-unfoldable pub with_job_level : Bool → Job → Level → Job
-with_job_level debugger j l = if debugger then with_level5 j l otherwise with_level4 j l
+-- the call f on process p, whose record is q, leaves it as w and comes to r
+abbrev pub SettlesProcess : (Tables → Reply) → ℕ → Process → Process → Result Unit Refusal → Type 0
+SettlesProcess f p q w r = (t : Tables) → process_at t (p % 64) ≡ q → settled_process t p w r ≡ f t
 
--- the call f on process p, whose record is q, comes to the move m
-abbrev pub MovesProcess : (Tables → Reply) → ℕ → Process → Move → Type 0
-MovesProcess f p q m = (t : Tables) → process_at t (p % 64) ≡ q → moved t p m ≡ f t
+-- the reply that the job w and this outcome stand for
+unfoldable pub settled_job : Tables → ℕ → Job → Result Unit Refusal → Reply
+settled_job t n w r = answered (put_job t (n % 32) w) (answer_of r)
 
-abbrev pub job_move : Job → ℤ → JobMove
-job_move j answer = record { answer = answer; job = j }
-
-unfoldable pub moved_job : Tables → ℕ → JobMove → Reply
-moved_job t j m = answered (put_job t (j % 32) m.job) m.answer
-
--- the call f on job n, whose record is j, comes to the move m
-abbrev pub MovesJob : (Tables → Reply) → ℕ → Job → JobMove → Type 0
-MovesJob f n j m = (t : Tables) → job_at t (n % 32) ≡ j → moved_job t n m ≡ f t
+-- the call f on job n, whose record is j, leaves it as w and comes to r
+abbrev pub SettlesJob : (Tables → Reply) → ℕ → Job → Job → Result Unit Refusal → Type 0
+SettlesJob f n j w r = (t : Tables) → job_at t (n % 32) ≡ j → settled_job t n w r ≡ f t

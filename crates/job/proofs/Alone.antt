@@ -1,4 +1,5 @@
 -- A job that lists nothing and that no killed job lists: its kill stays with its record. Assumes nothing.
+use Rattle.std.proofs.Common.{Option, Some, None}
 use Prim.Native.Nat.{ℕ, zero, suc}
 use native.Mathlib.Decide.{ℕ_discrete}
 use mathlib.Core.Path.{◌≡◌, refl, sym, ap, ◌∙◌}
@@ -7,8 +8,6 @@ use mathlib.Core.Bool.{Bool, true, false}
 use lib.Seq.{set-set}
 use Rattle.laws.proofs.Cases.{no_both, by, and_left, and_right}
 use borrow.Author.Tests.{not-true}
-use Rattle.record_job.specs.declared.Parent.{Parent}
-use Rattle.record_job.specs.declared.Parent.TheVariants.{Orphan, ChildOf}
 use Rattle.record_job.specs.declared.Job.{Job}
 use Rattle.record_job.specs.Job.{killed, terminated, child_of}
 use Rattle.lists.specs.Alone.{below_killed, kills_alone}
@@ -40,7 +39,7 @@ lists_same t j =
     (keep_job (λ v. child_of v j) t j (killed (job_at t j)) refl) (λ i. refl)
 
 -- a terminated job that is its own parent terminates again, and stays
-ends_again : (n : ℕ) (t : Tables) (j : ℕ) → (job_at t j).parent ≡ ChildOf j →
+ends_again : (n : ℕ) (t : Tables) (j : ℕ) → (job_at t j).parent ≡ Some j →
     t ≡ put_job t j (terminated (job_at t j)) → t ≡ terminate_up n t j
 unfolding terminate_up
 ends_again zero t j a e = refl
@@ -51,27 +50,27 @@ ends_again (suc n) t j a e =
 
 -- a job whose parent is not killed terminates, and no more
 module _ (t : Tables) (j : ℕ) (v : Job) (e : v ≡ job_at t j) (m : v.made ≡ true)
-    (k : (p : ℕ) → v.parent ≡ ChildOf p → p ≢ j → (job_at t p).killed ≡ false) where
+    (k : (p : ℕ) → v.parent ≡ Some p → p ≢ j → (job_at t p).killed ≡ false) where
   abbrev after : Tables
   after = put_job t j (terminated v)
 
-  own_parent : v.parent ≡ ChildOf j → (n : ℕ) → after ≡ terminate_up n after j
+  own_parent : v.parent ≡ Some j → (n : ℕ) → after ≡ terminate_up n after j
   own_parent a n =
       let here : job_at after j ≡ terminated v = put_job_made t j (terminated v) (made_read e m) in
       let same : after ≡ put_job after j (terminated (job_at after j)) =
       rw here (sym (twice t j (terminated v) (terminated v))) in
       ends_again n after j (ap (λ (u : Job). u.parent) here ∙ a) same
 
-  below : (p : ℕ) → v.parent ≡ ChildOf p → may_terminate after p ≡ true → Dec (p ≡ j) →
+  below : (p : ℕ) → v.parent ≡ Some p → may_terminate after p ≡ true → Dec (p ≡ j) →
       after ≡ terminate_up 31 after p
   below p a h (yes d) =
-      own_parent (a ∙ ap (λ (i : ℕ). ChildOf i) d) 31 ∙ ap (terminate_up 31 after) (sym d)
+      own_parent (a ∙ ap (λ (i : ℕ). Some i) d) 31 ∙ ap (terminate_up 31 after) (sym d)
   below p a h (no n) =
       no_both (killed_read (put_job_else t j p (terminated v) n) (may_killed after p h)) (k p a n)
 
-  up : (q : Parent) → v.parent ≡ q → after ≡ terminate_up 32 t j
-  up Orphan a = up_orphan 31 32 refl t j v (terminated v) after e refl refl a
-  up (ChildOf p) a =
+  up : (q : Option ℕ) → v.parent ≡ q → after ≡ terminate_up 32 t j
+  up None a = up_orphan 31 32 refl t j v (terminated v) after e refl refl a
+  up (Some p) a =
       by (may_terminate after p)
       (λ h. below p a h (ℕ_discrete p j) ∙ up_goes 31 32 refl t j v (terminated v) after e refl refl p a h)
       (λ h. up_stops 31 32 refl t j v (terminated v) after e refl refl p a h)
@@ -82,7 +81,7 @@ module _ (t : Tables) (j : ℕ) (v : Job) (e : v ≡ job_at t j) (m : v.made ≡
 
 module _ (t : Tables) (j : ℕ) (m : (job_at t j).made ≡ true) (k : (job_at t j).killed ≡ false)
     (b : below_killed t.jobs (job_at t j).parent ≡ false) where
-  above_lives : (p : ℕ) → (job_at t j).parent ≡ ChildOf p → p ≢ j →
+  above_lives : (p : ℕ) → (job_at t j).parent ≡ Some p → p ≢ j →
       (job_at (put_job t j (killed (job_at t j))) p).killed ≡ false
   unfolding job_at
   above_lives p a n =

@@ -1,19 +1,19 @@
 -- One pass over a list comes to what `set_policy_basic` says of it: the check of every entry first,
 -- then the entries in order.
 --     one_pass, one_pass_at    what is answered then is the definition's answer
+--     set_there, unset_there   whether the parent set a condition
 --     pass_next, pass_end      a turn of a loop over the list, and its end
---     first_next, first_end    the same over the first n of an array
 -- Assumes nothing.
+use Rattle.std.proofs.Common.{Option, Some, None}
 use Prim.Native.Nat.{ℕ, ◌+◌, ◌%◌, ◌<◌, ◌≤◌}
 use native.Mathlib.Nat.{mod-eq_of_lt}
 use native.Mathlib.Numerals.{add-one}
-use native.Mathlib.Omega.{arith}
 use mathlib.Core.Path.{◌≡◌, refl, sym, ◌∙◌, ap, ap₂}
 use mathlib.Core.Bool.{Bool, true, false}
 use mathlib.Core.List.{List, [], ◌∷◌}
 use lib.IntN.{pos}
-use lib.ListN.{length, get_or, take, drop, length-take, drop_of_length-le}
-use lib.Seq.{drop-cons, get_or-take}
+use lib.ListN.{length, get_or, drop, drop_of_length-le}
+use lib.Seq.{drop-cons}
 use borrow.Author.Tests.{le-leb, leb-true, leb-false}
 use Rattle.laws.specs.Choice.{◌<?◌, ◌≤?◌, ◌or◌}
 use Rattle.laws.specs.Lists.{any}
@@ -25,11 +25,19 @@ use Rattle.records.specs.declared.tables.Tables.{Tables}
 use Rattle.reply.specs.Reply.{answered}
 use Rattle.records.specs.Tables.{own_at, inherited_at}
 use Rattle.model.specs.JobCalls.{set_policy_basic}
-use Rattle.model.specs.JobPolicy.{bad_entry, Setting, setting, set_each, set_policy}
+use Rattle.model.specs.JobPolicy.{is_set, bad_entry, Setting, setting, set_each, set_policy}
 use Rattle.job_policy.specs.Policy.{apply}
 use Rattle.job.specs.declared.policy.Work.{Work}
 use Rattle.job.specs.Work.{start_work, begin_work, enter_work, step_work, finish_work}
 use Rattle.job.specs.Work.{after_each, setting_of, answer_with}
+
+-- ---- Whether the parent set a condition: g is what the code found, h what the definition asks -----------------
+
+pub set_there : {g h : Option ℕ} {a : ℕ} → g ≡ h → g ≡ Some a → is_set h ≡ true
+set_there p q = rw (← p, q)
+
+pub unset_there : {g h : Option ℕ} → g ≡ h → g ≡ None → is_set h ≡ false
+unset_there p q = rw (← p, q)
 
 -- ---- Whether some entry was bad ----------------------------------------------------------------
 
@@ -170,19 +178,3 @@ module _ (w : Work) (l : List BasicPolicy) (i : ℕ) where
   pub pass_end : length l ≤ i → after_each w (drop i l) ≡ w
   unfolding after_each
   pass_end h = rw (drop_of_length-le l h)
-
--- the same of the first n of an array of k entries, from what was known before
-abbrev pub Passed : Work → List BasicPolicy → ℕ → ℕ → Work → ℕ → Type 0
-Passed w₀ l n k w i =
-    (length l ≡ k) × ((i ≤ n) × (after_each w (drop i (take n l)) ≡ after_each w₀ (take n l)))
-
-module _ (w₀ : Work) (l : List BasicPolicy) (n k : ℕ) (w : Work) (i : ℕ) (inv : Passed w₀ l n k w i) where
-  pub first_next : (d : BasicPolicy) (u : Work) → i < n → i < k → u ≡ step_work w (get_or l i d)
-      → after_each u (drop (i + 1) (take n l)) ≡ after_each w₀ (take n l)
-  first_next d u h g e =
-      let m : i < length (take n l) = simp length-take (omega arith) in
-      let at : get_or (take n l) i d ≡ get_or l i d = rw get_or-take in
-      sym (rw (e, ← at) (pass_next w (take n l) i d m)) ∙ inv.1.1
-
-  pub first_end : length (take n l) ≤ i → w ≡ after_each w₀ (take n l)
-  first_end h = sym (pass_end w (take n l) i h) ∙ inv.1.1

@@ -1,7 +1,9 @@
 -- The calls on a job, over the records that they name: what a call gives, stored where the records were, is what the
 -- model says of the call, whatever else the tables hold.
-use Rattle.std.specs.Prelude.{ℕ, ◌%◌, ◌≡◌, Bool, true, ℤ}
+use Rattle.std.specs.Prelude.{ℕ, ◌%◌, ◌≡◌, Bool, true, pos, Result, Ok, Err}
 use Rattle.laws.specs.Choice.{if◌then◌otherwise◌}
+use Rattle.error.specs.declared.Refusal.{Refusal}
+use Rattle.error.specs.Numbers.{answer_of, number_of}
 use Rattle.job_policy.specs.declared.JobPolicy.{JobPolicy}
 use Rattle.record_job.specs.declared.Job.{Job}
 use Rattle.records.specs.declared.tables.Tables.{Tables}
@@ -13,9 +15,6 @@ use Rattle.reply.specs.declared.Shown.{Shown}
 use Rattle.reply.specs.Reply.{answered, showing}
 use Rattle.lists.specs.Alone.{kills_alone}
 use Rattle.model.specs.Job.{job_empty, kill_job}
-use Rattle.job.specs.declared.Made.{Made}
-use Rattle.job.specs.declared.Killing.{Killing}
-use Rattle.job.specs.declared.Move.{Move}
 
 -- where a job is looked up: every name has a place in the table, and one past it is refused
 abbrev pub slot : ℕ → ℕ
@@ -23,51 +22,60 @@ slot j = j % 32
 
 -- ---- 01: a job, and the policy that it inherits ------------------------------------------------------
 
-abbrev pub made : Job → JobPolicy → ℤ → Made
-made v inherited answer = record { answer = answer; job = v; inherited = inherited }
+-- what is left under the new name, and the outcome
+unfoldable pub made_in : Tables → ℕ → Job → JobPolicy → Result Unit Refusal → Reply
+made_in t new v inherited r =
+    answered (put_inherited (put_job t (slot new) v) (slot new) inherited) (answer_of r)
 
-unfoldable pub made_in : Tables → ℕ → Made → Reply
-made_in t new m =
-    answered (put_inherited (put_job t (slot new) m.job) (slot new) m.inherited) m.answer
-
--- j, own and inherited are of the job that is named, w and held stand under the new name
-abbrev pub Makes : (Tables → Reply) → (job new : ℕ) → Job → JobPolicy → JobPolicy → Job → JobPolicy → Made → Type 0
-Makes f job new j own inherited w held m =
+-- j, own and inherited are of the job that is named; under the new name stand w and held, and v and kept after the call
+abbrev pub Makes : (Tables → Reply) → (job new : ℕ) → Job → JobPolicy → JobPolicy → (w v : Job) → (held kept : JobPolicy) →
+    Result Unit Refusal → Type 0
+Makes f job new j own inherited w v held kept r =
     (t : Tables) → job_at t (slot job) ≡ j → own_at t (slot job) ≡ own → inherited_at t (slot job) ≡ inherited →
-    job_at t (slot new) ≡ w → inherited_at t (slot new) ≡ held → made_in t new m ≡ f t
+    job_at t (slot new) ≡ w → inherited_at t (slot new) ≡ held → made_in t new v kept r ≡ f t
 
 -- ---- 02: a kill that stays with the job's record, or the cascade ---------------------------------------
 
-abbrev pub killing : Job → ℤ → Bool → Killing
-killing v answer kills = record { answer = answer; kills = kills; job = v }
+-- an accepted kill says whether it reaches further
+unfoldable pub killed_in : Tables → ℕ → Job → Result Bool Refusal → Reply
+killed_in t j v (Ok further) =
+    let u : Tables = put_job t (slot j) v in
+    answered (if further then kill_job u j otherwise u) (pos 0)
+killed_in t j v (Err e) = answered (put_job t (slot j) v) (number_of e)
 
-unfoldable pub killed_in : Tables → ℕ → Killing → Reply
-killed_in t j m =
-    let u : Tables = put_job t (slot j) m.job in
-    answered (if m.kills then kill_job u j otherwise u) m.answer
-
-abbrev pub Kills : (Tables → Reply) → ℕ → Job → Bool → Killing → Type 0
-Kills f job j alone m =
+-- the call f on the job, whose record is j, leaves it as v and comes to r
+abbrev pub Kills : (Tables → Reply) → ℕ → (j v : Job) → Bool → Result Bool Refusal → Type 0
+Kills f job j v alone r =
     (t : Tables) → job_at t (slot job) ≡ j → (alone ≡ true → kills_alone t.jobs t.processes job ≡ true) →
-    killed_in t job m ≡ f t
+    killed_in t job v r ≡ f t
 
--- ---- 0f, 10: the job and its own policy; empty says whether the job lists nothing ----------------------
+-- ---- 0f: the job's own policy; empty says whether the job lists nothing ---------------------------------
 
-abbrev pub move : Job → JobPolicy → ℤ → Move
-move v own answer = record { answer = answer; job = v; own = own }
+unfoldable pub set_in : Tables → ℕ → JobPolicy → Result Unit Refusal → Reply
+set_in t j own r = answered (put_own t (slot j) own) (answer_of r)
 
-unfoldable pub moved : Tables → ℕ → Move → Reply
-moved t j m = answered (put_own (put_job t (slot j) m.job) (slot j) m.own) m.answer
-
-abbrev pub Sets : (Tables → Reply) → ℕ → Job → JobPolicy → Bool → Move → Type 0
-Sets f job j own empty m =
-    (t : Tables) → job_at t (slot job) ≡ j → own_at t (slot job) ≡ own → job_empty t job ≡ empty → moved t job m ≡ f t
+-- the call f leaves the policy own as set, and comes to r
+abbrev pub Sets : (Tables → Reply) → ℕ → Job → (own set : JobPolicy) → Bool → Result Unit Refusal → Type 0
+Sets f job j own set empty r =
+    (t : Tables) → job_at t (slot job) ≡ j → own_at t (slot job) ≡ own → job_empty t job ≡ empty →
+    set_in t job set r ≡ f t
 
 -- the same where the inherited policy is looked at too
-abbrev pub SetsUnder : (Tables → Reply) → ℕ → Job → JobPolicy → JobPolicy → Bool → Move → Type 0
-SetsUnder f job j own inherited empty m =
+abbrev pub SetsUnder : (Tables → Reply) → ℕ → Job → (own set inherited : JobPolicy) → Bool → Result Unit Refusal → Type 0
+SetsUnder f job j own set inherited empty r =
     (t : Tables) → job_at t (slot job) ≡ j → own_at t (slot job) ≡ own → inherited_at t (slot job) ≡ inherited →
-    job_empty t job ≡ empty → moved t job m ≡ f t
+    job_empty t job ≡ empty → set_in t job set r ≡ f t
+
+-- ---- 10: the job; empty as above -----------------------------------------------------------------------
+
+-- the reply that the job v and this outcome stand for
+unfoldable pub settled : Tables → ℕ → Job → Result Unit Refusal → Reply
+settled t j v r = answered (put_job t (slot j) v) (answer_of r)
+
+-- the call f on the job, whose record is j, leaves it as v and comes to r
+abbrev pub Settles : (Tables → Reply) → ℕ → (j v : Job) → Bool → Result Unit Refusal → Type 0
+Settles f job j v empty r =
+    (t : Tables) → job_at t (slot job) ≡ j → job_empty t job ≡ empty → settled t job v r ≡ f t
 
 -- ---- 1b: nothing is changed --------------------------------------------------------------------------
 

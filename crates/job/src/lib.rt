@@ -5,156 +5,110 @@
 ghost use Rattle.std.specs.Prelude.{take, ◌≡◌};
 ghost use Rattle.model.specs.JobCalls.{create_child, kill_job_call, set_policy_basic, set_policy_timer_slack};
 ghost use Rattle.model.specs.JobCalls.{job_information};
-ghost use Rattle.job.specs.Job.{made, Makes, killing, Kills, move, Sets, SetsUnder, fields_of, Shows};
+ghost use Rattle.job.specs.Job.{Makes, Kills, Sets, SetsUnder, Settles, fields_of, Shows};
 ghost use Rattle.job.specs.Work.{finish_work};
 
 use error::{Refusal, ZxError};
 use job_policy::{BasicPolicy, JobPolicy, TimerSlackPolicy};
 use policy::Work;
-use record_job::{FoundJob, Job};
+use record_job::Job;
 use reply::{Fields, Shown};
 
 pub mod policy;
 
 // -- Making ----------------------------------------------------------------------------------
 
-// What is made under a new name: the job, and the policy that it inherits.
-#[derive(Drop)]
-pub struct Made {
-    pub answer: i64,
-    pub job: Job,
-    pub inherited: JobPolicy,
-}
-
-impl Made {
-    fn new(v: Job, inherited: JobPolicy, answer: i64) -> Made
-        ensures { result ≡ made v inherited answer }
-    {
-        Made {
-            answer: answer,
-            job: v,
-            inherited: inherited,
-        }
-    }
-}
-
 // 01: `Job::create_child`; w and held stand under the new name. The inherited policy is fixed when a job is made.
+#[tactic(auto, using(crate::proofs::Moving::moving), unfolding(model::specs::JobCalls::create_child))]
 pub fn create_child(
     job: u8,
     new: u8,
     j: Job,
     own: JobPolicy,
     inherited: JobPolicy,
-    w: Job,
-    held: JobPolicy,
-) -> Made
-    ensures { Makes (λ t. create_child t job new) job new j own inherited w held result }
+    w: &mut Job,
+    held: &mut JobPolicy,
+) -> Result<(), Refusal>
+    ensures { Makes (λ t. create_child t job new) job new j own inherited w.old w.new held.old held.new result }
 {
     if 32 <= job {
-        return Made::new(w, held, Refusal::PAST_TABLE);
+        return Err(Refusal::PastTable);
     }
     if 32 <= new {
-        return Made::new(w, held, Refusal::PAST_TABLE);
+        return Err(Refusal::PastTable);
     }
-    let FoundJob::OldJob(v) = j.found() else {
-        return Made::new(w, held, Refusal::NOT_MADE);
+    let Some(v) = j.found() else {
+        return Err(Refusal::NotMade);
     };
     if w.made {
-        return Made::new(w, held, Refusal::USED);
+        return Err(Refusal::Used);
     }
     if v.killed {
-        return Made::new(w, held, ZxError::BAD_STATE);
+        return Err(Refusal::Zx(ZxError::BadState));
     }
-    Made::new(Job::new(job), own.merge(inherited), 0)
+    *w = Job::new(job);
+    *held = own.merge(inherited);
+    Ok(())
 }
 
 // -- Killing ---------------------------------------------------------------------------------
 
-// What 02 comes to. Where the kill reaches further, it is the cascade's.
-#[derive(Drop)]
-pub struct Killing {
-    pub answer: i64,
-    pub kills: bool,
-    pub job: Job,
-}
-
-impl Killing {
-    fn new(v: Job, answer: i64, kills: bool) -> Killing
-        ensures { result ≡ killing v answer kills }
-    {
-        Killing {
-            answer: answer,
-            kills: kills,
-            job: v,
-        }
-    }
-}
-
 // 02: `Job::kill`; alone: the job is known to list nothing, and no killed job lists it, so that the kill stays with it.
-pub fn kill(job: u8, j: Job, alone: bool) -> Killing
-    ensures { Kills (λ t. kill_job_call t job) job j alone result }
+// Answers whether the kill reaches further, and is the cascade's.
+#[tactic(auto, using(crate::proofs::Moving::moving), unfolding(model::specs::JobCalls::kill_job_call))]
+pub fn kill(job: u8, j: &mut Job, alone: bool) -> Result<bool, Refusal>
+    ensures { Kills (λ t. kill_job_call t job) job j.old j.new alone result }
 {
     if 32 <= job {
-        return Killing::new(j, Refusal::PAST_TABLE, false);
+        return Err(Refusal::PastTable);
     }
-    let FoundJob::OldJob(v) = j.found() else {
-        return Killing::new(j, Refusal::NOT_MADE, false);
+    let Some(v) = j.found() else {
+        return Err(Refusal::NotMade);
     };
     if v.killed {
-        return Killing::new(j, 0, false);
+        return Ok(false);
     }
     if alone {
-        return Killing::new(v.killed().terminated(), 0, false);
+        *j = v.killed().terminated();
+        return Ok(false);
     }
-    Killing::new(j, 0, true)
+    Ok(true)
 }
 
 // -- Settings --------------------------------------------------------------------------------
 
-// What 0f and 10 come to: the answer, and the job and its own policy after it.
-#[derive(Drop)]
-pub struct Move {
-    pub answer: i64,
-    pub job: Job,
-    pub own: JobPolicy,
-}
-
-impl Move {
-    fn new(v: Job, own: JobPolicy, answer: i64) -> Move
-        ensures { result ≡ move v own answer }
-    {
-        Move {
-            answer: answer,
-            job: v,
-            own: own,
-        }
-    }
-}
-
 // 0f once its list has been gone through; empty: the job lists nothing. The entries before a refused one stay set.
-pub fn settle_policy(job: u8, option: u8, w: Work, j: Job, own: JobPolicy, empty: bool) -> Move
-    ensures { Sets (λ t. finish_work t job option w) job j own empty result }
+#[tactic(auto, using(crate::proofs::Moving::moving), unfolding(crate::specs::Work::finish_work, crate::specs::Work::answer_with))]
+pub fn settle_policy(
+    job: u8,
+    option: u8,
+    w: Work,
+    j: Job,
+    own: &mut JobPolicy,
+    empty: bool,
+) -> Result<(), Refusal>
+    ensures { Sets (λ t. finish_work t job option w) job j own.old own.new empty result }
 {
     if 1 < option {
-        return Move::new(j, own, Refusal::BAD_FIELD);
+        return Err(Refusal::BadField);
     }
     if w.bad {
-        return Move::new(j, own, Refusal::BAD_FIELD);
+        return Err(Refusal::BadField);
     }
     if 32 <= job {
-        return Move::new(j, own, Refusal::PAST_TABLE);
+        return Err(Refusal::PastTable);
     }
-    let FoundJob::OldJob(_) = j.found() else {
-        return Move::new(j, own, Refusal::NOT_MADE);
+    let Some(_) = j.found() else {
+        return Err(Refusal::NotMade);
     };
     if !empty {
-        return Move::new(j, own, ZxError::BAD_STATE);
+        return Err(Refusal::Zx(ZxError::BadState));
     }
-    let set = w.own;
+    *own = w.own;
     if w.refused {
-        return Move::new(j, set, ZxError::ALREADY_EXISTS);
+        return Err(Refusal::Zx(ZxError::AlreadyExists));
     }
-    Move::new(j, set, 0)
+    Ok(())
 }
 
 // 0f: `Job::set_policy_basic` with up to fifteen entries by value; a count above 15 takes all fifteen.
@@ -164,45 +118,43 @@ pub fn set_policy(
     count: u8,
     policies: [BasicPolicy; 15],
     j: Job,
-    own: JobPolicy,
+    own: &mut JobPolicy,
     inherited: JobPolicy,
     empty: bool,
-) -> Move
-    ensures { SetsUnder (λ t. set_policy_basic t job option (take count policies)) job j own inherited empty result }
+) -> Result<(), Refusal>
+    ensures { SetsUnder (λ t. set_policy_basic t job option (take count policies)) job j own.old own.new inherited empty result }
 {
-    let w = policy::first(own, inherited, option, count, policies);
+    let w = policy::first(*own, inherited, option, count, policies);
     settle_policy(job, option, w, j, own, empty)
 }
 
 // 10: `Job::set_policy_timer_slack`; empty: the job lists nothing.
+#[tactic(auto, using(crate::proofs::Moving::moving), unfolding(model::specs::JobCalls::set_policy_timer_slack))]
 pub fn set_policy_timer_slack(
     job: u8,
     policy: TimerSlackPolicy,
-    j: Job,
-    own: JobPolicy,
+    j: &mut Job,
     empty: bool,
-) -> Move
-    ensures { Sets (λ t. set_policy_timer_slack t job policy) job j own empty result }
+) -> Result<(), Refusal>
+    ensures { Settles (λ t. set_policy_timer_slack t job policy) job j.old j.new empty result }
 {
     if 2 < policy.mode {
-        return Move::new(j, own, Refusal::BAD_FIELD);
+        return Err(Refusal::BadField);
     }
     if 32 <= job {
-        return Move::new(j, own, Refusal::PAST_TABLE);
+        return Err(Refusal::PastTable);
     }
-    let FoundJob::OldJob(v) = j.found() else {
-        return Move::new(j, own, Refusal::NOT_MADE);
+    let Some(v) = j.found() else {
+        return Err(Refusal::NotMade);
     };
     if !empty {
-        return Move::new(j, own, ZxError::BAD_STATE);
+        return Err(Refusal::Zx(ZxError::BadState));
     }
     if policy.slack < 0 {
-        return Move::new(j, own, ZxError::INVALID_ARGS);
+        return Err(Refusal::Zx(ZxError::InvalidArgs));
     }
-    let old = v.slack;
-    let mut after = v;
-    after.slack = old.generate_new(policy);
-    Move::new(after, own, 0)
+    j.slack = v.slack.generate_new(policy);
+    Ok(())
 }
 
 // -- Information -----------------------------------------------------------------------------
@@ -221,13 +173,14 @@ fn fields_of(v: Job) -> Fields
 }
 
 // 1b: job information, with the policy: the inherited entries win.
+#[tactic(auto, using(crate::proofs::Moving::moving), unfolding(model::specs::JobCalls::job_information))]
 pub fn get_info(job: u8, j: Job, own: JobPolicy, inherited: JobPolicy) -> Shown
     ensures { Shows (λ t. job_information t job) job j own inherited result }
 {
     if 32 <= job {
         return Shown::answered(Refusal::PAST_TABLE);
     }
-    let FoundJob::OldJob(v) = j.found() else {
+    let Some(v) = j.found() else {
         return Shown::answered(Refusal::NOT_MADE);
     };
     Shown {

@@ -4,9 +4,10 @@ ghost use Rattle.std.specs.Prelude.{take, ◌≡◌};
 ghost use Rattle.model.specs.JobPolicy.{bad_entry};
 ghost use Rattle.job.specs.Work.{start_work, enter_work, step_work, after_each};
 
-use job_policy::{ActionFound, BasicPolicy, JobPolicy, PolicyAction, PolicyCondition};
+use job_policy::{BasicPolicy, JobPolicy, PolicyAction, PolicyCondition};
 
-// What is known after some entries.
+// What is known after some entries. Two flags and no `Result`: an entry outside its lists is looked for past a refused
+// one too, so that neither takes the other's place.
 #[derive(Drop)]
 pub struct Work {
     pub own: JobPolicy,
@@ -19,13 +20,11 @@ pub struct Work {
 }
 
 // A condition or an action outside its list.
+#[tactic(auto, using(laws::proofs::Flow::branches), unfolding(model::specs::JobPolicy::bad_entry))]
 fn bad_entry(policy: BasicPolicy) -> bool
     ensures { result ≡ bad_entry policy }
 {
-    if PolicyCondition::COUNT <= policy.condition {
-        return true;
-    }
-    PolicyAction::COUNT <= policy.action
+    PolicyCondition::COUNT <= policy.condition || PolicyAction::COUNT <= policy.action
 }
 
 impl Work {
@@ -43,13 +42,12 @@ impl Work {
     }
 
     // A good entry. Where the parent set its condition, Absolute (0) refuses it and Relative skips it.
+    #[tactic(auto, using(laws::proofs::Flow::branches, crate::proofs::Fold::set_there, crate::proofs::Fold::unset_there), unfolding(crate::specs::Work::enter_work))]
     fn enter(mut self, policy: BasicPolicy) -> Work
         ensures { result ≡ enter_work self policy }
     {
-        let inherited = self.inherited;
-        let ActionFound::Action(a) = inherited.get_action(policy.condition) else {
-            let own = self.own;
-            self.own = own.apply(policy);
+        let Some(_) = self.inherited.get_action(policy.condition) else {
+            self.own = self.own.apply(policy);
             return self;
         };
         if self.option == 0 {
@@ -60,6 +58,7 @@ impl Work {
     }
 
     // One entry of the list.
+    #[tactic(auto, using(laws::proofs::Flow::branches), unfolding(crate::specs::Work::step_work))]
     pub fn step(mut self, policy: BasicPolicy) -> Work
         ensures { result ≡ step_work self policy }
     {
@@ -71,6 +70,16 @@ impl Work {
             return self;
         }
         self.enter(policy)
+    }
+
+    // Every entry of a list.
+    pub fn each(mut self, policies: &[BasicPolicy]) -> Work
+        ensures { result ≡ after_each self policies.now }
+    {
+        for policy in policies {
+            self = self.step(*policy);
+        }
+        self
     }
 }
 
@@ -84,15 +93,6 @@ pub fn first(
 ) -> Work
     ensures { result ≡ after_each (start_work own inherited option) (take count policies) }
 {
-    let mut w = Work::start(own, inherited, option);
-    let n = count as usize;
-    let mut i: usize = 0;
-    while i < 15 {
-        if n <= i {
-            return w;
-        }
-        w = w.step(policies[i]);
-        i += 1;
-    }
-    w
+    let n = (count as usize).min(15);
+    Work::start(own, inherited, option).each(&policies[..n])
 }

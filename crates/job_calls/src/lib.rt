@@ -5,44 +5,20 @@
 ghost use Rattle.std.specs.Prelude.{take, ◌≡◌};
 ghost use Rattle.model.specs.JobCalls.{create_child, kill_job_call, set_policy_basic, set_policy_timer_slack};
 ghost use Rattle.model.specs.JobCalls.{job_information};
-ghost use Rattle.job.specs.Job.{made_in, killed_in, moved};
+ghost use Rattle.error.specs.Numbers.{answer_of};
+ghost use Rattle.reply.specs.Reply.{answered};
 
-use job::{Killing, Made, Move};
+use error::Refusal;
 use job_policy::{BasicPolicy, TimerSlackPolicy};
 use records::reading::{inherited_at, job_at, own_at};
 use records::tables::Tables;
 use reply::Reply;
 
-// -- What a call gave, stored where the records were -------------------------------------------
-
-fn made_in(t: Tables, new: u8, m: Made) -> Reply
-    ensures { result ≡ made_in t new m }
+// The reply of an outcome, over the tables that it leaves.
+pub fn replied(t: Tables, outcome: Result<(), Refusal>) -> Reply
+    ensures { result ≡ answered t (answer_of outcome) }
 {
-    let v = m.job;
-    let inherited = m.inherited;
-    let u = t.with_job(new % 32, v);
-    Reply::answered(u.with_inherited(new % 32, inherited), m.answer)
-}
-
-// Where the kill reaches further, it is the cascade's.
-fn killed_in(t: Tables, job: u8, m: Killing) -> Reply
-    ensures { result ≡ killed_in t job m }
-{
-    let v = m.job;
-    let u = t.with_job(job % 32, v);
-    if m.kills {
-        return Reply::answered(cascade::kill_job(u, job), m.answer);
-    }
-    Reply::answered(u, m.answer)
-}
-
-pub fn moved(t: Tables, job: u8, m: Move) -> Reply
-    ensures { result ≡ moved t job m }
-{
-    let v = m.job;
-    let own = m.own;
-    let u = t.with_job(job % 32, v);
-    Reply::answered(u.with_own(job % 32, own), m.answer)
+    Reply::answered(t, error::answer_of(outcome))
 }
 
 // -- Making and killing ------------------------------------------------------------------------
@@ -54,24 +30,26 @@ pub fn create_child(t: Tables, job: u8, new: u8) -> Reply
     let j = job_at(t, job % 32);
     let own = own_at(t, job % 32);
     let inherited = inherited_at(t, job % 32);
-    let w = job_at(t, new % 32);
-    let held = inherited_at(t, new % 32);
-    made_in(
-        t,
-        new,
-        job::create_child(job, new, j, own, inherited, w, held),
-    )
+    let mut w = job_at(t, new % 32);
+    let mut held = inherited_at(t, new % 32);
+    let done = job::create_child(job, new, j, own, inherited, &mut w, &mut held);
+    let u = t.with_job(new % 32, w);
+    replied(u.with_inherited(new % 32, held), done)
 }
 
 // 02: `Job::kill`.
 pub fn kill(t: Tables, job: u8) -> Reply
     ensures { result ≡ kill_job_call t job }
 {
-    let j = job_at(t, job % 32);
-    let jobs = t.jobs;
-    let processes = t.processes;
-    let alone = lists::kills_alone(jobs, processes, job);
-    killed_in(t, job, job::kill(job, j, alone))
+    let mut j = job_at(t, job % 32);
+    let alone = lists::kills_alone(t.jobs, t.processes, job);
+    let done = job::kill(job, &mut j, alone);
+    let u = t.with_job(job % 32, j);
+    match done {
+        Ok(true) => Reply::answered(cascade::kill_job(u, job), 0),
+        Ok(false) => Reply::answered(u, 0),
+        Err(refusal) => replied(u, Err(refusal)),
+    }
 }
 
 // -- Settings and information ------------------------------------------------------------------
@@ -81,25 +59,21 @@ pub fn set_policy(t: Tables, job: u8, option: u8, count: u8, policies: [BasicPol
     ensures { result ≡ set_policy_basic t job option (take count policies) }
 {
     let j = job_at(t, job % 32);
-    let own = own_at(t, job % 32);
+    let mut own = own_at(t, job % 32);
     let inherited = inherited_at(t, job % 32);
     let empty = cascade::terminate::job_empty(t, job);
-    let m = job::set_policy(job, option, count, policies, j, own, inherited, empty);
-    moved(t, job, m)
+    let done = job::set_policy(job, option, count, policies, j, &mut own, inherited, empty);
+    replied(t.with_own(job % 32, own), done)
 }
 
 // 10: `Job::set_policy_timer_slack`.
 pub fn set_policy_timer_slack(t: Tables, job: u8, policy: TimerSlackPolicy) -> Reply
     ensures { result ≡ set_policy_timer_slack t job policy }
 {
-    let j = job_at(t, job % 32);
-    let own = own_at(t, job % 32);
+    let mut j = job_at(t, job % 32);
     let empty = cascade::terminate::job_empty(t, job);
-    moved(
-        t,
-        job,
-        job::set_policy_timer_slack(job, policy, j, own, empty),
-    )
+    let done = job::set_policy_timer_slack(job, policy, &mut j, empty);
+    replied(t.with_job(job % 32, j), done)
 }
 
 // 1b: job information.

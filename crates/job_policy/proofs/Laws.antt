@@ -1,4 +1,5 @@
 -- Laws of policies: the cases M1 and M2 of document 01. Assumes nothing.
+use Rattle.std.proofs.Common.{Some, None}
 use Prim.Native.Nat.{ℕ, ◌+◌, ◌-◌, ◌<◌, ◌≤◌}
 use mathlib.Core.Path.{◌≡◌, refl, sym, ◌∙◌, ap}
 use mathlib.Core.Logic.{◌≢◌}
@@ -12,7 +13,6 @@ use Rattle.laws.proofs.Flow.{first, second}
 use Rattle.laws.proofs.Loops.{zip_at}
 use Rattle.job_policy.specs.declared.JobPolicy.{JobPolicy}
 use Rattle.job_policy.specs.declared.BasicPolicy.{BasicPolicy}
-use Rattle.job_policy.specs.declared.ActionFound.TheVariants.{Unset, Action}
 use Rattle.job_policy.specs.Policy.{get_action, apply, merged_action, merge, ALLOW, DENY, M1}
 use Rattle.job_policy.specs.Policy.{M2, Cases}
 
@@ -51,33 +51,33 @@ later_kept p c a b h = go (dec_lt c 15) (dec_lt a 5)
 -- ---- M1 ------------------------------------------------------------------------------------
 
 -- an action that is found is the entry's, less 1
-found_entry : (p : JobPolicy) (c a : ℕ) → get_action p c ≡ Action a → (c < 15) × (get_or p.action c 0 ≡ a + 1)
+found_entry : (p : JobPolicy) (c a : ℕ) → get_action p c ≡ Some a → (c < 15) × (get_or p.action c 0 ≡ a + 1)
 unfolding get_action
 found_entry p c a e = go (dec_lt c 15) (ℕ_discrete (get_or p.action c 0) 0)
   where
     go : Dec (c < 15) → Dec (get_or p.action c 0 ≡ 0) → (c < 15) × (get_or p.action c 0 ≡ a + 1)
     go (yes h) (yes k) =
-        let u : Unset ≡ get_action p c = second _ _ (lt-leb _ _ h) (first _ _ (eq-eqb _ _ k) refl) in
+        let u : None ≡ get_action p c = second _ _ (lt-leb _ _ h) (first _ _ (eq-eqb _ _ k) refl) in
         let z : ◌≡◌ {A = ℕ} 0 1 = cc in
         absurd (omega arith)
     go (yes h) (no k) =
-        let u : Action (get_or p.action c 0 - 1) ≡ get_action p c =
+        let u : Some (get_or p.action c 0 - 1) ≡ get_action p c =
         second _ _ (lt-leb _ _ h) (second _ _ (ne_eqb _ _ k) refl) in
         let z : get_or p.action c 0 - 1 ≡ a = cc in
         (h, omega arith)
     go (no h) _ =
         let o : 15 ≤ c = omega arith in
-        let u : Unset ≡ get_action p c = first _ _ (le-leb _ _ o) refl in
+        let u : None ≡ get_action p c = first _ _ (le-leb _ _ o) refl in
         let z : ◌≡◌ {A = ℕ} 0 1 = cc in
         absurd (omega arith)
 
 -- an entry that is set is found
-entry_found : (p : JobPolicy) (c a : ℕ) → c < 15 → get_or p.action c 0 ≡ a + 1 → get_action p c ≡ Action a
+entry_found : (p : JobPolicy) (c a : ℕ) → c < 15 → get_or p.action c 0 ≡ a + 1 → get_action p c ≡ Some a
 unfolding get_action
 entry_found p c a h e =
     let n : get_or p.action c 0 - 1 ≡ a = omega arith in
     let k : get_or p.action c 0 ≢ 0 = λ z. omega arith in
-    sym (second _ _ (lt-leb _ _ h) (second _ _ (ne_eqb _ _ k) (ap Action (sym n))))
+    sym (second _ _ (lt-leb _ _ h) (second _ _ (ne_eqb _ _ k) (ap Some (sym n))))
 
 -- an entry that is not 0 stands in the list
 in_list : (l : List ℕ) (c a : ℕ) → get_or l c 0 ≡ a + 1 → c < length l
@@ -90,7 +90,7 @@ in_list l c a e = go (dec_lt c (length l))
         absurd (omega arith)
 
 parent_wins : (own parent : JobPolicy) (c : ℕ) →
-    get_action own c ≡ Action ALLOW → get_action parent c ≡ Action DENY → get_action (merge own parent) c ≡ Action DENY
+    get_action own c ≡ Some ALLOW → get_action parent c ≡ Some DENY → get_action (merge own parent) c ≡ Some DENY
 unfolding merge merged_action
 parent_wins own parent c e f =
     let o = found_entry own c ALLOW e in

@@ -1,22 +1,21 @@
 -- A job's policy: fifteen entries, 0 for none and a + 1 for the action a. Follows job_policy.rs. A condition of 15
 -- or more has no entry, and an action of 5 or more is no action: nothing is set.
+use Rattle.std.specs.Prelude.{Option, Some, None}
 use Rattle.std.specs.Prelude.{ℕ, ◌+◌, ◌-◌, ◌<◌, ◌≡◌, get_or, set, replicate}
 use Rattle.laws.specs.Choice.{◌≤?◌, ◌=?◌, if◌then◌otherwise◌}
 use Rattle.laws.specs.Lists.{zip}
 use Rattle.job_policy.specs.declared.JobPolicy.{JobPolicy}
 use Rattle.job_policy.specs.declared.BasicPolicy.{BasicPolicy}
-use Rattle.job_policy.specs.declared.ActionFound.{ActionFound}
-use Rattle.job_policy.specs.declared.ActionFound.TheVariants.{Unset, Action}
 
 abbrev pub no_policy : JobPolicy
 no_policy = record { action = replicate 15 0 }
 
-unfoldable pub get_action : JobPolicy → ℕ → ActionFound
+unfoldable pub get_action : JobPolicy → ℕ → Option ℕ
 get_action p condition =
     let entry = get_or p.action condition 0 in
-    if 15 ≤? condition then Unset otherwise
-    if entry =? 0 then Unset otherwise
-    Action (entry - 1)
+    if 15 ≤? condition then None otherwise
+    if entry =? 0 then None otherwise
+    Some (entry - 1)
 
 unfoldable pub apply : JobPolicy → BasicPolicy → JobPolicy
 apply p b =
@@ -42,8 +41,8 @@ DENY = 1
 unfoldable pub M1 : Type 0
 M1 =
     (own parent : JobPolicy) (c : ℕ) →
-    get_action own c ≡ Action ALLOW → get_action parent c ≡ Action DENY →
-    get_action (merge own parent) c ≡ Action DENY
+    get_action own c ≡ Some ALLOW → get_action parent c ≡ Some DENY →
+    get_action (merge own parent) c ≡ Some DENY
 
 -- M2: of two entries for one condition the later is kept
 unfoldable pub M2 : Type 0

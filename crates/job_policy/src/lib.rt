@@ -66,7 +66,7 @@ impl PolicyAction {
 }
 
 // An entry to set.
-#[derive(Clone, Copy)]
+#[derive(Clone, Copy, PartialEq, Eq)]
 pub struct BasicPolicy {
     pub condition: u8,
     pub action: u8,
@@ -75,26 +75,17 @@ pub struct BasicPolicy {
 // -- The policy ----------------------------------------------------------------------------
 
 // Entry 0 is none, a + 1 the action a.
-#[derive(Clone, Copy)]
+#[derive(Clone, Copy, PartialEq, Eq)]
 pub struct JobPolicy {
     pub action: [u8; 15],
 }
 
-// An action, or none.
-#[derive(Clone, Copy)]
-pub enum ActionFound {
-    Unset,
-    Action(u8),
-}
-
 // An entry under its parent's.
+#[tactic(auto, using(laws::proofs::Flow::branches), unfolding(crate::specs::Policy::merged_action))]
 fn merged_action(own: u8, parent: u8) -> u8
     ensures { result ≡ merged_action own parent }
 {
-    if parent == 0 {
-        return own;
-    }
-    parent
+    if parent == 0 { own } else { parent }
 }
 
 impl JobPolicy {
@@ -106,48 +97,35 @@ impl JobPolicy {
     }
 
     // The action of a condition.
-    pub fn get_action(self, condition: u8) -> ActionFound
+    #[tactic(auto, using(laws::proofs::Flow::branches), unfolding(crate::specs::Policy::get_action))]
+    pub fn get_action(self, condition: u8) -> Option<u8>
         ensures { result ≡ get_action self condition }
     {
-        let i = condition as usize;
-        if 15 <= i {
-            return ActionFound::Unset;
-        }
-        let a = self.action[i];
-        if a == 0 {
-            return ActionFound::Unset;
-        }
-        ActionFound::Action(a - 1)
+        let entry = self.action.get(condition as usize).copied().unwrap_or(0);
+        entry.checked_sub(1)
     }
 
     // The policy with one entry set.
+    #[tactic(auto, using(laws::proofs::Flow::branches), unfolding(crate::specs::Policy::apply))]
     pub fn apply(mut self, policy: BasicPolicy) -> JobPolicy
         ensures { result ≡ apply self policy }
     {
         let i = policy.condition as usize;
-        if 15 <= i {
-            return self;
+        if i < 15 && policy.action < PolicyAction::COUNT {
+            self.action[i] = policy.action + 1;
         }
-        let action = policy.action;
-        if PolicyAction::COUNT <= action {
-            return self;
-        }
-        self.action[i] = action + 1;
         self
     }
 
     // The policy under a parent's: the parent's entries win.
-    pub fn merge(self, parent: JobPolicy) -> JobPolicy
+    #[tactic(auto, using(laws::proofs::Flow::branches), unfolding(crate::specs::Policy::merge))]
+    pub fn merge(mut self, parent: JobPolicy) -> JobPolicy
         ensures { result ≡ merge self parent }
     {
-        let mut new = self;
-        let mut i: usize = 0;
-        while i < 15 {
-            let a = merged_action(new.action[i], parent.action[i]);
-            new.action[i] = a;
-            i += 1;
+        for i in 0..15 {
+            self.action[i] = merged_action(self.action[i], parent.action[i]);
         }
-        new
+        self
     }
 }
 
@@ -172,22 +150,13 @@ impl Slack {
     pub const LATE: u8 = 2;
 }
 
-#[derive(Clone, Copy)]
+#[derive(Clone, Copy, PartialEq, Eq)]
 pub struct TimerSlackPolicy {
     pub slack: i64,
     pub mode: u8,
 }
 
-fn larger(a: i64, b: i64) -> i64
-    ensures { result ≡ larger a b }
-{
-    if a < b {
-        return b;
-    }
-    a
-}
-
-#[derive(Clone, Copy)]
+#[derive(Clone, Copy, PartialEq, Eq)]
 pub struct TimerSlack {
     pub amount: i64,
     pub mode: u8,
@@ -205,11 +174,12 @@ impl TimerSlack {
     }
 
     // The larger amount, and the new mode.
+    #[tactic(auto, using(laws::proofs::Flow::branches), unfolding(crate::specs::Slack::generate_new, crate::specs::Slack::larger))]
     pub fn generate_new(self, policy: TimerSlackPolicy) -> TimerSlack
         ensures { result ≡ generate_new self policy }
     {
         TimerSlack {
-            amount: larger(self.amount, policy.slack),
+            amount: self.amount.max(policy.slack),
             mode: policy.mode,
         }
     }

@@ -1,12 +1,11 @@
 -- A reply as a line of text, in ASCII: the call's number, its answer, then its fields, each after
 -- one space. Read it beside document 01, "Commands of the recorder".
+use Rattle.std.specs.Prelude.{Option, Some, None}
 use Rattle.std.specs.Prelude.{ℕ, zero, suc, ◌+◌, ◌/◌, ◌%◌, ◌≡◌, Bool, true, false}
 use Rattle.std.specs.Prelude.{List, [], ◌∷◌, ◌++◌, ℤ, pos, negsuc, length, take}
 use Rattle.laws.specs.Choice.{◌<?◌, if◌then◌otherwise◌}
 use Rattle.job_policy.specs.Policy.{get_action}
 use Rattle.job_policy.specs.declared.JobPolicy.{JobPolicy}
-use Rattle.job_policy.specs.declared.ActionFound.{ActionFound}
-use Rattle.job_policy.specs.declared.ActionFound.TheVariants.{Unset, Action}
 use Rattle.reply.specs.declared.Fields.{Fields}
 use Rattle.reply.specs.declared.Fields.TheVariants.{NoFields, OwnerField, JobFields}
 use Rattle.reply.specs.declared.Fields.TheVariants.{ProcessFields, ThreadFields}
@@ -54,9 +53,9 @@ flag_text false = digit 0 ∷ []
 -- ---- A policy ------------------------------------------------------------------------------
 
 -- an action is one digit
-unfoldable pub action_char : ActionFound → ℕ
-action_char Unset = MINUS
-action_char (Action a) = digit (a % 10)
+unfoldable pub action_char : Option ℕ → ℕ
+action_char None = MINUS
+action_char (Some a) = digit (a % 10)
 
 -- the characters of conditions 0 to n - 1
 unfoldable pub policy_chars : JobPolicy → ℕ → List ℕ

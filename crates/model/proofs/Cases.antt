@@ -27,8 +27,7 @@ use Rattle.model.specs.JobCalls.{exit_process_call, kill_process, set_critical_a
 use Rattle.model.specs.JobCalls.{process_info, process_information}
 use Rattle.model.specs.JobPolicy.{policy_of, bad_entry, set_each, policy_set, set_policy}
 use Rattle.model.specs.JobPolicy.{panics_at, is_denied}
-use Rattle.model.specs.Replies.{old_job, old_process, old_thread, old_token, held_exception}
-use Rattle.model.specs.Replies.{old_level, old_task}
+use Rattle.model.specs.Replies.{present, held_exception}
 use Rattle.model.specs.Step.{step, answers}
 use Rattle.model.specs.SuspendToken.{some_at, change_in, change_task, suspend_task, resume_task}
 use Rattle.model.specs.SuspendToken.{create_token, drop_token}
@@ -38,8 +37,8 @@ use Rattle.model.specs.ThreadCalls.{is_wait_state, wait_begun, begin_wait, wait_
 use Rattle.model.specs.ThreadCalls.{wait_polled, poll_wait, create_token_call, drop_token_call}
 use Rattle.model.specs.ThreadCalls.{suspend_call, resume_call}
 use Rattle.records.specs.Owners.{owners_of, process_level, job_level, level_of_thread, level_of_process}
-use Rattle.records.specs.Owners.{level_of_job, found_level, put_level, tasks_of, made_job, made_process}
-use Rattle.records.specs.Owners.{made_thread, found_task}
+use Rattle.records.specs.Owners.{level_of_job, found_level, put_level, tasks_of, as_task}
+use Rattle.records.specs.Owners.{found_task}
 use Rattle.record_job.specs.Job.{child_of}
 use Rattle.record_process.specs.Process.{ended, acts, member_of}
 use Rattle.record_thread.specs.Thread.{hides, shown_state, is_live, is_free, thread_of, kill, exit}
@@ -62,12 +61,12 @@ unfolding Run get_action apply merged_action merge larger generate_new ◌and◌
     kill_within exit_within with_child create_child kill_job_call set_policy_basic set_policy_timer_slack job_info
     job_information with_new_process create_process with_started start_process exit_process_call kill_process
     set_critical_at_job check_policy process_info process_information policy_of bad_entry set_each policy_set
-    set_policy panics_at is_denied old_job old_process old_thread old_token held_exception old_level old_task step
+    set_policy panics_at is_denied present held_exception step
     answers some_at change_in change_task suspend_task resume_task create_token drop_token create_thread start_thread
     kill_thread exit_thread finish_thread_call thread_info thread_information is_wait_state wait_begun begin_wait
     wait_answer wait_polled poll_wait create_token_call drop_token_call suspend_call resume_call owners_of
-    process_level job_level level_of_thread level_of_process level_of_job found_level put_level tasks_of made_job
-    made_process made_thread found_task child_of ended acts member_of hides shown_state is_live is_free thread_of kill
+    process_level job_level level_of_thread level_of_process level_of_job found_level put_level tasks_of as_task
+    found_task child_of ended acts member_of hides shown_state is_live is_free thread_of kill
     exit suspend resume end_wait reply answered fresh_tables job_at own_at inherited_at process_at fixed_at thread_at
     token_at found_job found_process found_thread found_token put_job put_own put_inherited put_process put_fixed
     put_thread put_token

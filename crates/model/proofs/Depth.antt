@@ -1,6 +1,7 @@
 -- A cascade's depth does not matter once it is above the count of what is live. So killing and
 -- exiting meet the equations that their code follows, in which no depth stands: `kill_is`,
 -- `exit_is`. Assumes nothing.
+use Rattle.std.proofs.Common.{Option, Some, None}
 use Prim.Native.Nat.{ℕ, zero, suc, ◌≤◌, ◌<◌}
 use native.Mathlib.Nat.{le_refl, lt_of_le_of_lt}
 use native.Mathlib.Omega.{arith}
@@ -11,7 +12,6 @@ use Rattle.laws.specs.Choice.{ite}
 use Rattle.laws.proofs.Cases.{ite_two}
 use Rattle.record_job.specs.Job.{killed}
 use Rattle.record_process.specs.declared.Critical.{Critical}
-use Rattle.record_process.specs.declared.Critical.TheVariants.{Free, To}
 use Rattle.record_process.specs.declared.Status.TheVariants.{Exited}
 use Rattle.record_process.specs.Process.{KILL_CODE, with_status, acts}
 use Rattle.records.specs.declared.tables.Tables.{Tables}
@@ -56,12 +56,12 @@ up_to_same m f g h e (suc n) t r =
     e n (up_to n f t) (lt_of_le_of_lt (up_to_le f h n t) r) ∙ ap (g n) (up_to_same m f g h e n t r)
 
 module _ (m : ℕ) (K L : Kill) (ks : KillSame m K L) where
-  kill_bound_same : (b : Critical) (code : ℤ) (t : Tables) → remaining t < m
+  kill_bound_same : (b : Option Critical) (code : ℤ) (t : Tables) → remaining t < m
       → kill_bound K b code t ≡ kill_bound L b code t
   unfolding kill_bound
-  kill_bound_same Free code t r = refl
-  kill_bound_same (To j nonzero) code t r =
-      ways_same (acts nonzero code) _ _ _ _ (λ e. ks t j r) (λ e. refl)
+  kill_bound_same None code t r = refl
+  kill_bound_same (Some b) code t r =
+      ways_same (acts b.nonzero code) _ _ _ _ (λ e. ks t b.job r) (λ e. refl)
 
   end_step_same : (t : Tables) (p : ℕ) → remaining t < m → end_step K t p ≡ end_step L t p
   unfolding end_step

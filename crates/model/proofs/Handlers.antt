@@ -1,5 +1,6 @@
 -- Which handlers are left after a closing: levels 2, 3, 1 and 4, never a job's debugger.
 -- Assumes nothing.
+use Rattle.std.proofs.Common.{Option, Some, None}
 use Prim.Native.Nat.{ℕ, zero, suc}
 use mathlib.Core.Bool.{Bool}
 use Rattle.laws.specs.Choice.{◌=?◌}
@@ -10,34 +11,31 @@ use Rattle.record_exception.specs.declared.Place.TheVariants.{SecondChance, OfJo
 use Rattle.record_exception.specs.declared.Place.TheVariants.{Exiting}
 use Rattle.record_exception.specs.declared.Exception.{Exception}
 use Rattle.record_exception.specs.Channel.{is_bound}
-use Rattle.record_job.specs.declared.Parent.{Parent}
 use Rattle.records.specs.declared.tables.Tables.{Tables}
 use Rattle.records.specs.Tables.{job_at}
-use Rattle.model.specs.declared.Handler.{Handler}
-use Rattle.model.specs.declared.Handler.TheVariants.{Nobody, HandlerAt}
 use Rattle.model.specs.declared.Search.{Search}
 use Rattle.model.specs.Job.{on_parent}
 use Rattle.model.specs.Exception.{level_at, no_handler, try_at, search_up, from_jobs}
 use Rattle.model.specs.Exception.{from_second_chance, from_process, from_thread, next_handler}
 use Rattle.model.proofs.Keeps.{on_parent_on}
 
-pub data Left : Handler → Type 0 where
-  at_none : Left Nobody
-  at_thread : Left (HandlerAt OwnThread)
-  at_process : Left (HandlerAt OwnProcess)
-  at_second : Left (HandlerAt SecondChance)
-  at_job : {j : ℕ} → Left (HandlerAt (OfJob j))
+pub data Left : Option Place → Type 0 where
+  at_none : Left None
+  at_thread : Left (Some OwnThread)
+  at_process : Left (Some OwnProcess)
+  at_second : Left (Some SecondChance)
+  at_job : {j : ℕ} → Left (Some (OfJob j))
 
 abbrev Leaves : Search → Type 0
 Leaves s = Left s.at
 
 -- delivered at this place, or left to the rest
 tries : (t : Tables) (n : ℕ) (place : Place) (k : Tables → Search)
-    → Left (HandlerAt place) → ((u : Tables) → Leaves (k u)) → Leaves (try_at t n place k)
+    → Left (Some place) → ((u : Tables) → Leaves (k u)) → Leaves (try_at t n place k)
 unfolding try_at
 tries t n place k h g = ite_on Leaves (is_bound (level_at t n place)) _ _ (λ _. h) λ _. g _
 
-parent_leaves : (q : Parent) (t : Tables) (k : ℕ → Search) → ((i : ℕ) → Leaves (k i))
+parent_leaves : (q : Option ℕ) (t : Tables) (k : ℕ → Search) → ((i : ℕ) → Leaves (k i))
     → Leaves (on_parent q (no_handler t) k)
 parent_leaves q t k g = on_parent_on Leaves q _ k (λ _. at_none) λ i _. g i
 

@@ -1,20 +1,18 @@
 -- What each single store of a cascade keeps (`Stores`), the whole cascade keeps, at any depth: one
 -- theorem for counts, lengths, fixed fields, marks that stay, and records that a cascade leaves
 -- alone. Assumes nothing.
+use Rattle.std.proofs.Common.{Option, Some, None}
 use Prim.Native.Nat.{ℕ, zero, suc}
 use mathlib.Core.Path.{◌≡◌, refl, ap}
 use mathlib.Core.Bool.{Bool, true, false}
 use lib.IntN.{ℤ}
 use Rattle.laws.proofs.Cases.{ite_on, if_on}
-use Rattle.record_job.specs.declared.Parent.{Parent}
-use Rattle.record_job.specs.declared.Parent.TheVariants.{Orphan, ChildOf}
 use Rattle.record_job.specs.declared.Job.{Job}
 use Rattle.record_job.specs.Job.{killed, terminated}
 use Rattle.record_process.specs.declared.Critical.{Critical}
-use Rattle.record_process.specs.declared.Critical.TheVariants.{Free, To}
 use Rattle.record_process.specs.declared.Status.TheVariants.{Exited}
 use Rattle.record_process.specs.declared.Process.{Process}
-use Rattle.record_process.specs.Process.{KILL_CODE, is_exited, code_of, with_status, ended, acts}
+use Rattle.record_process.specs.Process.{critical_to, KILL_CODE, is_exited, code_of, with_status, ended, acts}
 use Rattle.records.specs.declared.tables.Tables.{Tables}
 use Rattle.record_thread.specs.Thread.{finish}
 use Rattle.records.specs.Tables.{job_at, process_at, thread_at, put_job, put_process, put_thread}
@@ -30,11 +28,11 @@ use Rattle.model.proofs.Live.{live_job_made, live_process_made}
 
 -- ---- A parent, and a loop ------------------------------------------------------------------
 
-pub on_parent_on {ℓ} : {A : Type 0} (P : A → Type ℓ) (q : Parent) (a : A) (k : ℕ → A)
-    → (q ≡ Orphan → P a) → ((p : ℕ) → q ≡ ChildOf p → P (k p)) → P (on_parent q a k)
+pub on_parent_on {ℓ} : {A : Type 0} (P : A → Type ℓ) (q : Option ℕ) (a : A) (k : ℕ → A)
+    → (q ≡ None → P a) → ((p : ℕ) → q ≡ Some p → P (k p)) → P (on_parent q a k)
 unfolding on_parent
-on_parent_on P Orphan a k f g = f refl
-on_parent_on P (ChildOf p) a k f g = g p refl
+on_parent_on P None a k f g = f refl
+on_parent_on P (Some p) a k f g = g p refl
 
 pub up_to_keeps : (P : Tables → Type 0) (f : ℕ → Tables → Tables)
     → ((i : ℕ) (t : Tables) → P t → P (f i t))
@@ -72,13 +70,13 @@ module _ (P : Tables → Type 0) (R : Reach) (s : Stores P R) where
       (λ h. terminate_job_keeps u (process_at t p).job (s.home t p a x h) h y) (λ h. y)
 
   module _ (K : Tables → ℕ → Tables) (k : (t : Tables) (j : ℕ) → R.job j → P t → P (K t j)) where
-    kill_bound_keeps : (b : Critical) (code : ℤ) (t : Tables)
-        → ((j : ℕ) (nonzero : Bool) → b ≡ To j nonzero → acts nonzero code ≡ true → R.job j)
+    kill_bound_keeps : (b : Option Critical) (code : ℤ) (t : Tables)
+        → ((j : ℕ) (nonzero : Bool) → b ≡ critical_to j nonzero → acts nonzero code ≡ true → R.job j)
         → P t → P (kill_bound K b code t)
     unfolding kill_bound
-    kill_bound_keeps Free code t a x = x
-    kill_bound_keeps (To j nonzero) code t a x =
-        ite_on P _ _ _ (λ e. k t j (a j nonzero refl e) x) (λ e. x)
+    kill_bound_keeps None code t a x = x
+    kill_bound_keeps (Some b) code t a x =
+        ite_on P _ _ _ (λ e. k t b.job (a b.job b.nonzero refl e) x) (λ e. x)
 
     end_step_keeps : (t : Tables) (p : ℕ) → R.process p → R.ending t p → P t → P (end_step K t p)
     unfolding end_step

@@ -1,5 +1,6 @@
 -- What each call comes to: refused with a number of its row, or accepted with one of its answers.
 -- One walk over the 31 definitions, for the claims `Refusals` and `Answers` both. Assumes nothing.
+use Rattle.std.proofs.Common.{Option, Some, None}
 use Prim.Native.Nat.{ℕ}
 use mathlib.Core.Path.{◌≡◌, refl}
 use mathlib.Core.Bool.{Bool, false}
@@ -10,32 +11,17 @@ use Rattle.laws.specs.Guarded.{Guarded}
 use Rattle.laws.proofs.Cases.{if_on}
 use Rattle.laws.proofs.Within.{Missing, found_in, missing_in, Within, within, settle_within}
 use Rattle.job_policy.specs.declared.BasicPolicy.{BasicPolicy}
+use Rattle.record_exception.specs.declared.Exception.{Exception}
+use Rattle.record_exception.specs.declared.Place.{Place}
 use Rattle.record_exception.specs.declared.Place.TheVariants.{Debugger, OwnThread, OwnProcess}
 use Rattle.record_exception.specs.declared.Place.TheVariants.{SecondChance, OfJob, OfJobDebugger}
 use Rattle.record_exception.specs.declared.Place.TheVariants.{Exiting}
-use Rattle.record_thread.specs.declared.FoundException.{FoundException}
-use Rattle.record_thread.specs.declared.FoundException.TheVariants.{NoException, Held}
 use Rattle.records.specs.declared.tables.Tables.{Tables}
-use Rattle.record_job.specs.declared.FoundJob.{FoundJob}
-use Rattle.record_job.specs.declared.FoundJob.TheVariants.{NoJob, OldJob}
-use Rattle.record_process.specs.declared.FoundProcess.{FoundProcess}
-use Rattle.record_process.specs.declared.FoundProcess.TheVariants.{NoProcess, OldProcess}
-use Rattle.record_thread.specs.declared.FoundThread.{FoundThread}
-use Rattle.record_thread.specs.declared.FoundThread.TheVariants.{NoThread, OldThread}
-use Rattle.record_token.specs.declared.FoundToken.{FoundToken}
-use Rattle.record_token.specs.declared.FoundToken.TheVariants.{NoToken, OldToken}
 use Rattle.reply.specs.declared.Fields.TheVariants.{NoFields}
 use Rattle.reply.specs.declared.Reply.{Reply}
 use Rattle.reply.specs.Reply.{reply, answered}
 use Rattle.records.specs.Tables.{own_at, inherited_at, put_own}
-use Rattle.records.specs.declared.owners.FoundLevel.{FoundLevel}
-use Rattle.records.specs.declared.owners.FoundLevel.TheVariants.{NoLevel, OldLevel}
-use Rattle.records.specs.declared.owners.FoundTask.{FoundTask}
-use Rattle.records.specs.declared.owners.FoundTask.TheVariants.{NoTask, OldTask}
-use Rattle.model.specs.declared.Handler.{Handler}
-use Rattle.model.specs.declared.Handler.TheVariants.{Nobody, HandlerAt}
-use Rattle.model.specs.Replies.{call, old_job, old_process, old_thread, old_token, held_exception}
-use Rattle.model.specs.Replies.{old_level, old_task}
+use Rattle.model.specs.Replies.{call, present, held_exception}
 use Rattle.model.specs.JobPolicy.{set_each, policy_set, set_policy}
 use Rattle.model.specs.Exception.{deliver, raise_exiting, raise, close}
 use Rattle.model.specs.JobCalls.{create_child, kill_job_call, set_policy_basic}
@@ -78,42 +64,17 @@ guarded t c l h = settle_within _ l (λ z n. refused n refl refl same) h
 -- ---- Lookups: the number of each --------------------------------------------------------------
 
 module _ {N : ℤ → Type 0} where
-  no_job_lem : (h : FoundJob) → N (pos 103) → Missing N (old_job h)
-  unfolding old_job
-  no_job_lem NoJob n = missing_in n
-  no_job_lem (OldJob v) n = found_in
+  no_record : {A : Type 0} (h : Option A) → N (pos 103) → Missing N (present h)
+  unfolding present
+  no_record None n = missing_in n
+  no_record (Some v) n = found_in
 
-  no_process_lem : (h : FoundProcess) → N (pos 103) → Missing N (old_process h)
-  unfolding old_process
-  no_process_lem NoProcess n = missing_in n
-  no_process_lem (OldProcess v) n = found_in
-
-  no_thread_lem : (h : FoundThread) → N (pos 103) → Missing N (old_thread h)
-  unfolding old_thread
-  no_thread_lem NoThread n = missing_in n
-  no_thread_lem (OldThread v) n = found_in
-
-  no_token_lem : (h : FoundToken) → N (pos 103) → Missing N (old_token h)
-  unfolding old_token
-  no_token_lem NoToken n = missing_in n
-  no_token_lem (OldToken v) n = found_in
-
-  no_exception : (h : FoundException) → N (pos 105) → Missing N (held_exception h)
+  no_exception : (h : Option Exception) → N (pos 105) → Missing N (held_exception h)
   unfolding held_exception
-  no_exception NoException n = missing_in n
-  no_exception (Held e) n = found_in
+  no_exception None n = missing_in n
+  no_exception (Some e) n = found_in
 
-  no_level : (h : FoundLevel) → N (pos 103) → Missing N (old_level h)
-  unfolding old_level
-  no_level NoLevel n = missing_in n
-  no_level (OldLevel v) n = found_in
-
-  no_task : (h : FoundTask) → N (pos 103) → Missing N (old_task h)
-  unfolding old_task
-  no_task NoTask n = missing_in n
-  no_task OldTask n = found_in
-
-ruleset lookups = (no_job_lem, no_process_lem, no_thread_lem, no_token_lem, no_exception, no_level, no_task)
+ruleset lookups = (no_record, no_exception)
 
 -- ---- Feet ----------------------------------------------------------------------------------
 
@@ -131,18 +92,18 @@ module _ {t : Tables} {c : Call} where
 
 -- an exception delivered: the level, or -61
 module _ {t : Tables} {n : ℕ} (u : Tables) (m kind : ℕ) (s : Bool) where
-  raised : {k : ℕ} (h : Handler) → Outcome t (cmd14 n k) (deliver h u m kind s)
+  raised : {k : ℕ} (h : Option Place) → Outcome t (cmd14 n k) (deliver h u m kind s)
   unfolding deliver row_of reply ◌or◌
-  raised Nobody = search answer depth 9
-  raised (HandlerAt Debugger) = search answer depth 9
-  raised (HandlerAt OwnThread) = search answer depth 9
-  raised (HandlerAt OwnProcess) = search answer depth 9
-  raised (HandlerAt SecondChance) = search answer depth 9
-  raised (HandlerAt (OfJob j)) = search answer depth 9
-  raised (HandlerAt (OfJobDebugger j)) = search answer depth 9
-  raised (HandlerAt Exiting) = search answer depth 9
+  raised None = search answer depth 9
+  raised (Some Debugger) = search answer depth 9
+  raised (Some OwnThread) = search answer depth 9
+  raised (Some OwnProcess) = search answer depth 9
+  raised (Some SecondChance) = search answer depth 9
+  raised (Some (OfJob j)) = search answer depth 9
+  raised (Some (OfJobDebugger j)) = search answer depth 9
+  raised (Some Exiting) = search answer depth 9
 
-  closed : {h : Handler} → Left h → Outcome t (cmd15 n) (deliver h u m kind s)
+  closed : {h : Option Place} → Left h → Outcome t (cmd15 n) (deliver h u m kind s)
   unfolding deliver row_of reply ◌or◌
   closed at_none = search answer depth 9
   closed at_thread = search answer depth 9

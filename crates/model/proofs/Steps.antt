@@ -1,6 +1,7 @@
 -- Killing, exiting and ending along the ways of their code: what each comes to, by the records that
 -- were read (v), the records that were made of them (r), the tests that were met and the tables
 -- after each call (u, w). Assumes nothing.
+use Rattle.std.proofs.Common.{Option, None}
 use Prim.Native.Nat.{ℕ, ◌≤◌, ◌<◌}
 use native.Mathlib.Nat.{lt_of_le_of_lt}
 use mathlib.Core.Path.{◌≡◌, refl, sym, ap, ◌∙◌, subst}
@@ -10,10 +11,9 @@ use Rattle.laws.proofs.Flow.{yes, no}
 use Rattle.record_job.specs.declared.Job.{Job}
 use Rattle.record_job.specs.Job.{killed, child_of}
 use Rattle.record_process.specs.declared.Critical.{Critical}
-use Rattle.record_process.specs.declared.Critical.TheVariants.{Free, To}
 use Rattle.record_process.specs.declared.Status.TheVariants.{Exited}
 use Rattle.record_process.specs.declared.Process.{Process}
-use Rattle.record_process.specs.Process.{KILL_CODE, code_of, with_status, acts, member_of}
+use Rattle.record_process.specs.Process.{critical_to, KILL_CODE, code_of, with_status, acts, member_of}
 use Rattle.records.specs.declared.tables.Tables.{Tables}
 use Rattle.records.specs.Tables.{job_at, process_at, put_job, put_process}
 use Rattle.model.specs.Job.{job_empty, lists_thread, terminate_job, stop_threads, up_to}
@@ -151,27 +151,27 @@ module _ (t : Tables) (p : ℕ) (code : ℤ) (u : Tables) (m : Exiting t p code 
 
 module _ (t : Tables) (p : ℕ) (v : Process) (u : Tables) (e : v ≡ process_at t p)
     (g : u ≡ unlist_process t p) where
-  end_step_lem : (b : Critical) → v.critical ≡ b
+  end_step_lem : (b : Option Critical) → v.critical ≡ b
       → kill_bound kill_job b (code_of v.status) u ≡ end_process t p
   unfolding end_process end_step
   end_step_lem b f =
       let w : Tables = unlist_process t p in
-      ap (λ (q : Critical). kill_bound kill_job q (code_of v.status) u) (sym f)
+      ap (λ (q : Option Critical). kill_bound kill_job q (code_of v.status) u) (sym f)
       ∙ ap (kill_bound kill_job v.critical (code_of v.status)) g
       ∙ ap (λ (q : Process). kill_bound kill_job q.critical (code_of q.status) w) e
 
-  pub end_free : v.critical ≡ Free → u ≡ end_process t p
+  pub end_free : v.critical ≡ None → u ≡ end_process t p
   unfolding kill_bound
-  end_free f = end_step_lem Free f
+  end_free f = end_step_lem None f
 
-  module _ (j : ℕ) (nonzero : Bool) (f : v.critical ≡ To j nonzero) where
+  module _ (j : ℕ) (nonzero : Bool) (f : v.critical ≡ critical_to j nonzero) where
     pub end_acts : acts nonzero (code_of v.status) ≡ true → kill_job u j ≡ end_process t p
     unfolding kill_bound
-    end_acts h = yes _ _ h refl ∙ end_step_lem (To j nonzero) f
+    end_acts h = yes _ _ h refl ∙ end_step_lem (critical_to j nonzero) f
 
     pub end_rests : acts nonzero (code_of v.status) ≡ false → u ≡ end_process t p
     unfolding kill_bound
-    end_rests h = no _ _ h refl ∙ end_step_lem (To j nonzero) f
+    end_rests h = no _ _ h refl ∙ end_step_lem (critical_to j nonzero) f
 
   pub unlisted_le : remaining u ≤ remaining t
   unlisted_le = subst (λ (w : Tables). remaining w ≤ remaining t) (sym g) (unlist_le t p)

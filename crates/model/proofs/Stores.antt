@@ -1,15 +1,14 @@
 -- The stores of a cascade, one by one, each with the fact under which it happens and with what is
 -- known of the names by which the cascade reached it. `Keeps` makes of these what the whole keeps.
 -- Assumes nothing.
+use Rattle.std.proofs.Common.{Some}
 use Prim.Native.Nat.{ℕ}
 use mathlib.Core.Path.{◌≡◌}
 use mathlib.Core.Bool.{Bool, true, false}
 use lib.IntN.{ℤ}
-use Rattle.record_job.specs.declared.Parent.TheVariants.{ChildOf}
 use Rattle.record_job.specs.Job.{killed, terminated, child_of}
-use Rattle.record_process.specs.declared.Critical.TheVariants.{To}
 use Rattle.record_process.specs.declared.Status.TheVariants.{Exited}
-use Rattle.record_process.specs.Process.{KILL_CODE, is_exited, code_of, with_status, ended, acts}
+use Rattle.record_process.specs.Process.{critical_to, KILL_CODE, is_exited, code_of, with_status, ended, acts}
 use Rattle.record_process.specs.Process.{member_of}
 use Rattle.records.specs.declared.tables.Tables.{Tables}
 use Rattle.records.specs.Tables.{job_at, process_at, put_job, put_process}
@@ -54,13 +53,13 @@ pub record Stores (P : Tables → Type 0) (R : Reach) : Type 0 where
   pub child : (t : Tables) (j c : ℕ) → R.job j → P t → child_of (job_at t c) j ≡ true → R.job c
   pub member : (t : Tables) (j p : ℕ) → R.job j → P t → member_of (process_at t p) j ≡ true
       → R.process p
-  pub above : (t : Tables) (j p : ℕ) → R.job j → P t → (job_at t j).parent ≡ ChildOf p
+  pub above : (t : Tables) (j p : ℕ) → R.job j → P t → (job_at t j).parent ≡ Some p
       → may_terminate (put_job t j (terminated (job_at t j))) p ≡ true → R.job p
   pub home : (t : Tables) (p : ℕ) → R.process p → P t
       → may_terminate (put_process t p (ended (process_at t p))) (process_at t p).job ≡ true
       → R.job (process_at t p).job
   pub bound_to : (t : Tables) (p j : ℕ) (nonzero : Bool) → R.process p → P t
-      → (process_at t p).critical ≡ To j nonzero
+      → (process_at t p).critical ≡ critical_to j nonzero
       → acts nonzero (code_of (process_at t p).status) ≡ true → R.job j
 
 -- where the names do not matter

@@ -2,14 +2,13 @@
 -- that leaves its job's list, a thread that finishes, and the turns of a loop. v is the record that
 -- was read, r the one that was made of it, u the tables after the store; a count of steps is given
 -- as m, and what is left of it as n. Assumes nothing.
+use Rattle.std.proofs.Common.{Option, Some, None}
 use Prim.Native.Nat.{ℕ, suc, ◌+◌}
 use native.Mathlib.Numerals.{add-one}
 use mathlib.Core.Path.{◌≡◌, refl, sym, ap, ap₂, ◌∙◌}
 use mathlib.Core.Bool.{true, false}
 use Rattle.laws.specs.Choice.{◌=?◌}
 use Rattle.laws.proofs.Flow.{yes, no, first, second}
-use Rattle.record_job.specs.declared.Parent.{Parent}
-use Rattle.record_job.specs.declared.Parent.TheVariants.{Orphan, ChildOf}
 use Rattle.record_job.specs.declared.Job.{Job}
 use Rattle.record_job.specs.Job.{terminated}
 use Rattle.record_process.specs.declared.Process.{Process}
@@ -24,11 +23,11 @@ use Rattle.model.specs.Job.{terminate_job, up_to, unlist_process, end_process, f
 -- ---- A parent --------------------------------------------------------------------------------
 
 module _ {A : Type 0} where
-  pub no_parent : {q : Parent} {z : A} (a : A) (k : ℕ → A) → q ≡ Orphan → z ≡ a → z ≡ on_parent q a k
+  pub no_parent : {q : Option ℕ} {z : A} (a : A) (k : ℕ → A) → q ≡ None → z ≡ a → z ≡ on_parent q a k
   unfolding on_parent
   no_parent a k e h = rw e h
 
-  pub with_parent : {q : Parent} {p : ℕ} {z : A} (a : A) (k : ℕ → A) → q ≡ ChildOf p → z ≡ k p
+  pub with_parent : {q : Option ℕ} {p : ℕ} {z : A} (a : A) (k : ℕ → A) → q ≡ Some p → z ≡ k p
       → z ≡ on_parent q a k
   unfolding on_parent
   with_parent a k e h = rw e h
@@ -47,11 +46,11 @@ module _ (n m : ℕ) (s : suc n ≡ m) (t : Tables) (j : ℕ) (v r : Job) (u : T
   steps : terminate_up (suc n) t j ≡ terminate_up m t j
   steps = ap (λ (k : ℕ). terminate_up k t j) s
 
-  pub up_orphan : v.parent ≡ Orphan → u ≡ terminate_up m t j
+  pub up_orphan : v.parent ≡ None → u ≡ terminate_up m t j
   unfolding terminate_up
   up_orphan a = no_parent _ _ (ap (λ (w : Job). w.parent) (sym e) ∙ a) stored ∙ steps
 
-  module _ (p : ℕ) (a : v.parent ≡ ChildOf p) where
+  module _ (p : ℕ) (a : v.parent ≡ Some p) where
     may : may_terminate (put_job t j (terminated (job_at t j))) p ≡ may_terminate u p
     may = ap (λ (w : Tables). may_terminate w p) (sym stored)
 
@@ -81,12 +80,12 @@ module _ (n m : ℕ) (s : suc n ≡ m) (t : Tables) (j i : ℕ) where
   above_here h = yes _ _ h refl ∙ above_steps
 
   module _ (d : i =? j ≡ false) (v : Job) (e : v ≡ job_at t i) where
-    pub above_orphan : v.parent ≡ Orphan → false ≡ is_above m t j i
+    pub above_orphan : v.parent ≡ None → false ≡ is_above m t j i
     unfolding is_above
     above_orphan a =
         no _ _ d (no_parent _ _ (ap (λ (w : Job). w.parent) (sym e) ∙ a) refl) ∙ above_steps
 
-    pub above_goes : (p : ℕ) → v.parent ≡ ChildOf p → is_above n t j p ≡ is_above m t j i
+    pub above_goes : (p : ℕ) → v.parent ≡ Some p → is_above n t j p ≡ is_above m t j i
     unfolding is_above
     above_goes p a =
         no _ _ d (with_parent _ _ (ap (λ (w : Job). w.parent) (sym e) ∙ a) refl) ∙ above_steps

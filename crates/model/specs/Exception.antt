@@ -1,6 +1,7 @@
 -- Exceptions: which handlers are tried, in which order, and what becomes of the thread.
 -- Follows exception.rs, `handle_exception` of thread.rs and document 01 (Exceptions). A place stands for the Rust's
 -- iterators.
+use Rattle.std.specs.Prelude.{Option, Some, None}
 use Rattle.std.specs.Prelude.{ℕ, zero, suc, Bool, true, false, not, ℤ, pos}
 use Rattle.laws.specs.Choice.{◌≤?◌, ◌=?◌, ◌or◌, if◌then◌otherwise◌, ite}
 use Rattle.error.specs.Numbers.{STOP, NEXT}
@@ -24,8 +25,6 @@ use Rattle.records.specs.Tables.{job_at, process_at, thread_at, put_job, put_pro
 use Rattle.model.specs.declared.Route.{Route}
 use Rattle.model.specs.declared.Route.TheVariants.{Ordinary, JobDebuggers, DebuggerOnly}
 use Rattle.model.specs.declared.Route.TheVariants.{ToExiting, NoType}
-use Rattle.model.specs.declared.Handler.{Handler}
-use Rattle.model.specs.declared.Handler.TheVariants.{Nobody, HandlerAt}
 use Rattle.model.specs.declared.Search.{Search}
 use Rattle.model.specs.Job.{on_parent, exit_process}
 
@@ -103,12 +102,12 @@ pass_over t n place = put_level_at t n place (tried (level_at t n place))
 
 -- where an exception goes, and the tables with the hung-up levels on the way made unbound
 abbrev pub no_handler : Tables → Search
-no_handler t = record { tables = t; at = Nobody }
+no_handler t = record { tables = t; at = None }
 
 -- delivered at a place, or the search goes on
 unfoldable pub try_at : Tables → ℕ → Place → (Tables → Search) → Search
 try_at t n place k =
-    ite (is_bound (level_at t n place)) (λ _. record { tables = t; at = HandlerAt place })
+    ite (is_bound (level_at t n place)) (λ _. record { tables = t; at = Some place })
     λ _. k (pass_over t n place)
 
 -- level 4, or 5, from job j up to the root: k jobs at most
@@ -180,9 +179,9 @@ unfoldable pub unhandled : Tables → ℕ → ℕ → Tables
 unhandled t n kind =
     if is_synth kind then over_tables t n otherwise exit_process (over_tables t n) (process_of t n) KILL_CODE
 
-unfoldable pub deliver : Handler → Tables → ℕ → ℕ → Bool → Reply
-deliver Nobody t n kind second = outcome (unhandled t n kind) NEXT
-deliver (HandlerAt place) t n kind second =
+unfoldable pub deliver : Option Place → Tables → ℕ → ℕ → Bool → Reply
+deliver None t n kind second = outcome (unhandled t n kind) NEXT
+deliver (Some place) t n kind second =
     reply (put_thread t n (waits (thread_at t n) BLOCKED_EXCEPTION
     (InException (exception_at kind place second))))
     (pos (level_of place)) (OwnerField (owner_of t n place))

@@ -1,14 +1,12 @@
 -- Jobs and processes: lists, terminations upward, and killing, exiting and ending, which call one another. Follows
 -- job.rs and process.rs, with what their comments quote of Zircon, and document 01.
+use Rattle.std.specs.Prelude.{Option, Some, None}
 use Rattle.std.specs.Prelude.{ℕ, zero, suc, ◌+◌, Bool, true, false, not, List, [], ◌∷◌, map, ℤ}
 use Rattle.laws.specs.Choice.{◌=?◌, ◌and◌, if◌then◌otherwise◌, ite}
 use Rattle.laws.specs.Lists.{any}
-use Rattle.record_job.specs.declared.Parent.{Parent}
-use Rattle.record_job.specs.declared.Parent.TheVariants.{Orphan, ChildOf}
 use Rattle.record_job.specs.declared.Job.{Job}
 use Rattle.record_job.specs.Job.{killed, terminated, child_of}
 use Rattle.record_process.specs.declared.Critical.{Critical}
-use Rattle.record_process.specs.declared.Critical.TheVariants.{Free, To}
 use Rattle.record_process.specs.declared.Status.TheVariants.{Exited}
 use Rattle.record_process.specs.declared.Process.{Process}
 use Rattle.record_process.specs.Process.{KILL_CODE, is_exited, code_of, with_status, ended, acts}
@@ -36,9 +34,9 @@ lists_thread t p = any (λ v. thread_of v p) t.threads
 
 -- ---- Upward --------------------------------------------------------------------------------
 
-unfoldable pub on_parent : {A : Type 0} → Parent → A → (ℕ → A) → A
-on_parent Orphan a k = a
-on_parent (ChildOf p) a k = k p
+unfoldable pub on_parent : {A : Type 0} → Option ℕ → A → (ℕ → A) → A
+on_parent None a k = a
+on_parent (Some p) a k = k p
 
 -- is job j at or above job i? n steps at most
 unfoldable pub is_above : ℕ → Tables → ℕ → ℕ → Bool
@@ -108,9 +106,9 @@ kill_step K X t j =
     ite (is_live_job (job_at t j)) (λ _. kill_listed K X (put_job t j (killed (job_at t j))) j) λ _. t
 
 -- the bound job is killed unless the binding wants a nonzero code and the code is 0
-unfoldable pub kill_bound : (Tables → ℕ → Tables) → Critical → ℤ → Tables → Tables
-kill_bound K Free code t = t
-kill_bound K (To j nonzero) code t = ite (acts nonzero code) (λ _. K t j) λ _. t
+unfoldable pub kill_bound : (Tables → ℕ → Tables) → Option Critical → ℤ → Tables → Tables
+kill_bound K None code t = t
+kill_bound K (Some b) code t = ite (acts b.nonzero code) (λ _. K t b.job) λ _. t
 
 -- `Job::remove_process`
 unfoldable pub unlist_process : Tables → ℕ → Tables

@@ -1,12 +1,11 @@
 -- Policies of jobs and processes in the tables. Follows `set_policy_basic` of job.rs and
 -- `check_policy` of process.rs, with what their comments quote of Zircon.
+use Rattle.std.specs.Prelude.{Option, Some, None}
 use Rattle.std.specs.Prelude.{ℕ, Bool, true, false, not, List, [], ◌∷◌, pos}
 use Rattle.laws.specs.Choice.{◌≤?◌, ◌=?◌, ◌or◌, if◌then◌otherwise◌, ite}
 use Rattle.error.specs.Numbers.{ALREADY_EXISTS}
 use Rattle.job_policy.specs.declared.JobPolicy.{JobPolicy}
 use Rattle.job_policy.specs.declared.BasicPolicy.{BasicPolicy}
-use Rattle.job_policy.specs.declared.ActionFound.{ActionFound}
-use Rattle.job_policy.specs.declared.ActionFound.TheVariants.{Unset, Action}
 use Rattle.job_policy.specs.Policy.{get_action, apply, merge, ALLOW, DENY}
 use Rattle.records.specs.declared.tables.Tables.{Tables}
 use Rattle.reply.specs.declared.Reply.{Reply}
@@ -17,9 +16,9 @@ use Rattle.records.specs.Tables.{own_at, inherited_at, put_own}
 unfoldable pub policy_of : Tables → ℕ → JobPolicy
 policy_of t j = merge (own_at t j) (inherited_at t j)
 
-abbrev pub is_set : ActionFound → Bool
-is_set Unset = false
-is_set (Action a) = true
+abbrev pub is_set : Option ℕ → Bool
+is_set None = false
+is_set (Some a) = true
 
 -- a condition or an action outside its list
 unfoldable pub bad_entry : BasicPolicy → Bool
@@ -50,10 +49,10 @@ unfoldable pub set_policy : Tables → ℕ → ℕ → List BasicPolicy → Repl
 set_policy t j option l = policy_set t j (set_each option (inherited_at t j) (own_at t j) l)
 
 -- `check_policy`: what the Rust panics at
-unfoldable pub panics_at : ActionFound → Bool
-panics_at Unset = false
-panics_at (Action a) = not ((a =? ALLOW) or (a =? DENY))
+unfoldable pub panics_at : Option ℕ → Bool
+panics_at None = false
+panics_at (Some a) = not ((a =? ALLOW) or (a =? DENY))
 
-unfoldable pub is_denied : ActionFound → Bool
-is_denied Unset = false
-is_denied (Action a) = a =? DENY
+unfoldable pub is_denied : Option ℕ → Bool
+is_denied None = false
+is_denied (Some a) = a =? DENY

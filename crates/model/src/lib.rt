@@ -10,8 +10,8 @@ ghost use Rattle.model.specs.Refusals.{Refusals};
 use record_exception::Place;
 use records::tables::Tables;
 
-// The order of handlers that an exception type takes.
-#[derive(Clone, Copy)]
+// The order of handlers that an exception type takes. That there is none is a way of its own, as the scope lists them.
+#[derive(Clone, Copy, PartialEq, Eq)]
 pub enum Route {
     Ordinary,
     JobDebuggers,
@@ -21,18 +21,11 @@ pub enum Route {
     NoType,
 }
 
-// Who takes an exception.
-#[derive(Clone, Copy)]
-pub enum Handler {
-    Nobody,
-    HandlerAt(Place),
-}
-
-// Where an exception goes, and the tables with the hung-up levels on the way made unbound.
+// Who takes an exception, if anybody does, and the tables with the hung-up levels on the way made unbound.
 #[derive(Drop)]
 pub struct Search {
     pub tables: Tables,
-    pub at: Handler,
+    pub at: Option<Place>,
 }
 
 // Carries the claims about single calls as its promise.

@@ -1,17 +1,18 @@
 -- How a `return` of a function over the records of a process meets a call's definition: `search moving` closes it.
 --     unmade, makes                   03: nothing is made, or the process and its policy
---     stays_as_it_is, exited, exits   05 and 06: refused, Exited already, or it exits
---     stays, stores                   07: the process stays, or is stored where it was
+--     exit_refused, exited, exits     05 and 06: refused, Exited already, or it exits
+--     refused, stored                 07: the process stays, or is stored where it was
 --     panics_there, denied_there      11: what the policy fixed at its making says, as the tables have it
 --     shows_info                      1c
 -- Assumes nothing.
+use Rattle.std.proofs.Common.{Option, Ok, Err}
+use Rattle.error.specs.declared.Refusal.{Refusal}
+use Rattle.error.specs.Numbers.{number_of}
 use Prim.Native.Nat.{ℕ, ◌%◌, ◌<◌}
 use native.Mathlib.Nat.{mod-eq_of_lt}
 use mathlib.Core.Path.{◌≡◌, refl, ap, sym, ◌∙◌}
 use mathlib.Core.Bool.{Bool, true, false}
 use lib.IntN.{ℤ, pos}
-use Rattle.laws.specs.Choice.{if◌then◌otherwise◌}
-use Rattle.job_policy.specs.declared.ActionFound.{ActionFound}
 use Rattle.job_policy.specs.declared.JobPolicy.{JobPolicy}
 use Rattle.job_policy.specs.Policy.{get_action, merge}
 use Rattle.record_process.specs.declared.Status.TheVariants.{Exited}
@@ -31,74 +32,74 @@ use Rattle.model.proofs.Answering.{answering}
 use Rattle.model.proofs.Steps.{exit_done, exit_step_lem}
 use Rattle.model.proofs.Steps.{exiting as marks}
 use Rattle.model.proofs.Live.{live_process, exited_process}
-use Rattle.process.specs.declared.Made.{Made}
-use Rattle.process.specs.declared.Exiting.{Exiting}
-use Rattle.process.specs.declared.Move.{Move}
-use Rattle.process.specs.Process.{slot, made, made_in, exiting, exited_in, move, moved, fields_of}
+use Rattle.process.specs.Process.{slot, made_in, exit_settled, settled, fields_of}
 
 -- ---- 03 ----------------------------------------------------------------------------------------
 
-pub unmade : {m : Made} (t : Tables) (new : ℕ) {q : Process} {fixed : JobPolicy} (c : ℤ) →
-    m ≡ made q fixed c → process_at t (slot new) ≡ q → fixed_at t (slot new) ≡ fixed → made_in t new m ≡ answered t c
+pub unmade : (t : Tables) (new : ℕ) {q : Process} {fixed : JobPolicy} (e : Refusal) {c : ℤ} →
+    number_of e ≡ c → process_at t (slot new) ≡ q → fixed_at t (slot new) ≡ fixed →
+    made_in t new q fixed (Err e) ≡ answered t c
 unfolding made_in
-unmade t new c e h k = rw (e, process_kept t (slot new) h, fixed_kept t (slot new) k)
+unmade t new e i h k = rw (process_kept t (slot new) h, fixed_kept t (slot new) k, i)
 
-pub makes : {m : Made} (t : Tables) (job new : ℕ) {own inherited : JobPolicy} →
-    m ≡ made (new_process job) (merge own inherited) (pos 0) → job < 32 → new < 64 →
+pub makes : {q : Process} {fixed : JobPolicy} (t : Tables) (job new : ℕ) {own inherited : JobPolicy} →
+    q ≡ new_process job → fixed ≡ merge own inherited → job < 32 → new < 64 →
     own_at t (job % 32) ≡ own → inherited_at t (job % 32) ≡ inherited →
-    made_in t new m ≡ answered (with_new_process t job new) (pos 0)
+    made_in t new q fixed (Ok tt) ≡ answered (with_new_process t job new) (pos 0)
 unfolding made_in with_new_process policy_of
-makes t job new e l k o i = rw (e, ← o, ← i, mod-eq_of_lt l, mod-eq_of_lt k)
+makes t job new e f l k o i = rw (e, f, ← o, ← i, mod-eq_of_lt l, mod-eq_of_lt k)
 
 -- ---- 05, 06 ------------------------------------------------------------------------------------
 
-pub stays_as_it_is : {m : Exiting} (t : Tables) (p : ℕ) {q : Process} (c : ℤ) →
-    m ≡ exiting q c false → process_at t (slot p) ≡ q → exited_in t p m ≡ answered t c
-unfolding exited_in if◌then◌otherwise◌
-stays_as_it_is t p c e h = rw (e, process_kept t (slot p) h)
+pub exit_refused : (t : Tables) (p : ℕ) {q : Process} (e : Refusal) {c : ℤ} →
+    number_of e ≡ c → process_at t (slot p) ≡ q → exit_settled t p q (Err e) ≡ answered t c
+unfolding exit_settled
+exit_refused t p e i h = rw (process_kept t (slot p) h, i)
 
 -- an Exited process: the first code stays
-pub exited : {m : Exiting} (t : Tables) (p : ℕ) (code : ℤ) {q : Process} →
-    m ≡ exiting q (pos 0) false → p < 64 → process_at t (slot p) ≡ q → is_exited q.status ≡ true →
-    exited_in t p m ≡ answered (exit_process t p code) (pos 0)
-exited t p code {q} e l h x =
-    stays_as_it_is t p (pos 0) e h
-    ∙ ap (λ (u : Tables). answered u (pos 0)) (exit_done t p code q (sym (process_at_lem t p l h)) (exited_process q x))
+pub exited : (t : Tables) (p : ℕ) (code : ℤ) {q : Process} →
+    p < 64 → process_at t (slot p) ≡ q → is_exited q.status ≡ true →
+    exit_settled t p q (Ok false) ≡ answered (exit_process t p code) (pos 0)
+unfolding exit_settled
+exited t p code {q} l h x =
+    rw (process_kept t (slot p) h)
+    (ap (λ (u : Tables). answered u (pos 0)) (exit_done t p code q (sym (process_at_lem t p l h)) (exited_process q x)))
 
-pub exits : {m : Exiting} (t : Tables) (p : ℕ) (code : ℤ) {q w : Process} →
-    m ≡ exiting w (pos 0) true → w ≡ with_status q (Exited code) → p < 64 → process_at t (slot p) ≡ q →
-    q.made ≡ true → is_exited q.status ≡ false → exited_in t p m ≡ answered (exit_process t p code) (pos 0)
-unfolding exited_in if◌then◌otherwise◌
-exits t p code {q} {w} e f l h y x =
+pub exits : (t : Tables) (p : ℕ) (code : ℤ) {q w : Process} →
+    w ≡ with_status q (Exited code) → p < 64 → process_at t (slot p) ≡ q →
+    q.made ≡ true → is_exited q.status ≡ false →
+    exit_settled t p w (Ok true) ≡ answered (exit_process t p code) (pos 0)
+unfolding exit_settled
+exits t p code {q} {w} f l h y x =
     let at : q ≡ process_at t p = sym (process_at_lem t p l h) in
-    rw (e, mod-eq_of_lt l)
+    rw (mod-eq_of_lt l)
     (ap (λ (u : Tables). answered u (pos 0))
     (exit_step_lem t p code _ (marks t p code q w (put_process t p w) at (live_process q y x) f refl)))
 
 -- ---- 07 ----------------------------------------------------------------------------------------
 
-pub stays : {m : Move} (t : Tables) (p : ℕ) {q : Process} (c : ℤ) →
-    m ≡ move q c → process_at t (slot p) ≡ q → moved t p m ≡ answered t c
-unfolding moved
-stays t p c e h = rw (e, process_kept t (slot p) h)
+pub refused : (t : Tables) (p : ℕ) {q : Process} (e : Refusal) {c : ℤ} →
+    number_of e ≡ c → process_at t (slot p) ≡ q → settled t p q (Err e) ≡ answered t c
+unfolding settled
+refused t p e i h = rw (process_kept t (slot p) h, i)
 
-pub stores : {m : Move} (t : Tables) (p : ℕ) (w : Process) (c : ℤ) →
-    m ≡ move w c → p < 64 → moved t p m ≡ answered (put_process t p w) c
-unfolding moved
-stores t p w c e h = rw (e, mod-eq_of_lt h)
+pub stored : {u : Process} (t : Tables) (p : ℕ) (w : Process) →
+    u ≡ w → p < 64 → settled t p u (Ok tt) ≡ answered (put_process t p w) (pos 0)
+unfolding settled
+stored t p w e h = rw (e, mod-eq_of_lt h)
 
 -- ---- 11, 1c ------------------------------------------------------------------------------------
 
-there : {a : ActionFound} {f : JobPolicy} (t : Tables) (p c : ℕ) →
+there : {a : Option ℕ} {f : JobPolicy} (t : Tables) (p c : ℕ) →
     a ≡ get_action f c → fixed_at t (slot p) ≡ f → p < 64 → a ≡ get_action (fixed_at t p) c
 there t p c e k h = e ∙ rw (← k, mod-eq_of_lt h)
 
-pub panics_there : {r b : Bool} {a : ActionFound} {f : JobPolicy} (t : Tables) (p c : ℕ) →
+pub panics_there : {r b : Bool} {a : Option ℕ} {f : JobPolicy} (t : Tables) (p c : ℕ) →
     r ≡ panics_at a → r ≡ b → a ≡ get_action f c → fixed_at t (slot p) ≡ f → p < 64 →
     panics_at (get_action (fixed_at t p) c) ≡ b
 panics_there t p c x y e k h = sym (ap panics_at (there t p c e k h)) ∙ sym x ∙ y
 
-pub denied_there : {r b : Bool} {a : ActionFound} {f : JobPolicy} (t : Tables) (p c : ℕ) →
+pub denied_there : {r b : Bool} {a : Option ℕ} {f : JobPolicy} (t : Tables) (p c : ℕ) →
     r ≡ is_denied a → r ≡ b → a ≡ get_action f c → fixed_at t (slot p) ≡ f → p < 64 →
     is_denied (get_action (fixed_at t p) c) ≡ b
 denied_there t p c x y e k h = sym (ap is_denied (there t p c e k h)) ∙ sym x ∙ y
@@ -114,9 +115,9 @@ pub ruleset moving = (
   process_looked_up_at,
   new_process_lem,
   unmade,
-  stays_as_it_is,
-  stays,
-  stores,
+  exit_refused,
+  refused,
+  stored,
   shows_answer,
   shows_info,
   panics_there,

@@ -1,7 +1,8 @@
 -- The calls on a process, over the records that they name: what a call gives, stored where the records were, is what
 -- the model says of the call, whatever else the tables hold.
-use Rattle.std.specs.Prelude.{ℕ, ◌%◌, ◌≡◌, Bool, not, ℤ}
-use Rattle.laws.specs.Choice.{if◌then◌otherwise◌}
+use Rattle.std.specs.Prelude.{ℕ, ◌%◌, ◌≡◌, Bool, true, false, not, ℤ, pos, Result, Ok, Err}
+use Rattle.error.specs.declared.Refusal.{Refusal}
+use Rattle.error.specs.Numbers.{number_of, answer_of}
 use Rattle.job_policy.specs.declared.JobPolicy.{JobPolicy}
 use Rattle.record_exception.specs.Channel.{is_bound}
 use Rattle.record_job.specs.declared.Job.{Job}
@@ -15,9 +16,6 @@ use Rattle.reply.specs.declared.Reply.{Reply}
 use Rattle.reply.specs.declared.Shown.{Shown}
 use Rattle.reply.specs.Reply.{answered, showing}
 use Rattle.model.specs.Job.{at_or_above, exit_listed, kill_job}
-use Rattle.process.specs.declared.Made.{Made}
-use Rattle.process.specs.declared.Exiting.{Exiting}
-use Rattle.process.specs.declared.Move.{Move}
 
 -- where a process is looked up: every name has a place in the table, and one past it is refused
 abbrev pub slot : ℕ → ℕ
@@ -25,45 +23,42 @@ slot p = p % 64
 
 -- ---- 03: a process, and the policy fixed for it ----------------------------------------------------
 
-abbrev pub made : Process → JobPolicy → ℤ → Made
-made q fixed answer = record { answer = answer; process = q; fixed = fixed }
+-- the reply that the records q and fixed and this outcome stand for
+unfoldable pub made_in : Tables → ℕ → Process → JobPolicy → Result Unit Refusal → Reply
+made_in t new q fixed r = answered (put_fixed (put_process t (slot new) q) (slot new) fixed) (answer_of r)
 
-unfoldable pub made_in : Tables → ℕ → Made → Reply
-made_in t new m =
-    answered (put_fixed (put_process t (slot new) m.process) (slot new) m.fixed) m.answer
-
--- j, own and inherited are of the job that is named, q and fixed stand under the new name
-abbrev pub Makes : (Tables → Reply) → (job new : ℕ) → Job → JobPolicy → JobPolicy → Process → JobPolicy → Made → Type 0
-Makes f job new j own inherited q fixed m =
+-- j, own and inherited are of the job that is named; q and fixed stand under the new name, and are left as w and held
+abbrev pub Makes :
+    (Tables → Reply) → (job new : ℕ) → Job → JobPolicy → JobPolicy → Process → JobPolicy →
+    Process → JobPolicy → Result Unit Refusal → Type 0
+Makes f job new j own inherited q fixed w held r =
     (t : Tables) → job_at t (job % 32) ≡ j → own_at t (job % 32) ≡ own → inherited_at t (job % 32) ≡ inherited →
-    process_at t (slot new) ≡ q → fixed_at t (slot new) ≡ fixed → made_in t new m ≡ f t
+    process_at t (slot new) ≡ q → fixed_at t (slot new) ≡ fixed → made_in t new w held r ≡ f t
 
 -- ---- 05, 06: a process that exits ends, or its threads are killed ------------------------------------
 
-abbrev pub exiting : Process → ℤ → Bool → Exiting
-exiting q answer exits = record { answer = answer; exits = exits; process = q }
+-- the reply that the process w and this outcome stand for: `Ok true` where it exits
+unfoldable pub exit_settled : Tables → ℕ → Process → Result Bool Refusal → Reply
+exit_settled t p w (Ok true) = answered (exit_listed kill_job (put_process t (slot p) w) (slot p)) (pos 0)
+exit_settled t p w (Ok false) = answered (put_process t (slot p) w) (pos 0)
+exit_settled t p w (Err e) = answered (put_process t (slot p) w) (number_of e)
 
-unfoldable pub exited_in : Tables → ℕ → Exiting → Reply
-exited_in t p m =
-    let u : Tables = put_process t (slot p) m.process in
-    answered (if m.exits then exit_listed kill_job u (slot p) otherwise u) m.answer
-
-abbrev pub Exits : (Tables → Reply) → ℕ → Process → Exiting → Type 0
-Exits f p q m = (t : Tables) → process_at t (slot p) ≡ q → exited_in t p m ≡ f t
+-- the call f on process p, whose record is q, leaves it as w and comes to r
+abbrev pub Exits : (Tables → Reply) → ℕ → Process → Process → Result Bool Refusal → Type 0
+Exits f p q w r = (t : Tables) → process_at t (slot p) ≡ q → exit_settled t p w r ≡ f t
 
 -- ---- 07: a process bound to a job ------------------------------------------------------------------
 
-abbrev pub move : Process → ℤ → Move
-move q answer = record { answer = answer; process = q }
+-- the reply that the process w and this outcome stand for
+unfoldable pub settled : Tables → ℕ → Process → Result Unit Refusal → Reply
+settled t p w r = answered (put_process t (slot p) w) (answer_of r)
 
-unfoldable pub moved : Tables → ℕ → Move → Reply
-moved t p m = answered (put_process t (slot p) m.process) m.answer
-
--- above: whether the job is at or above that of the process
-abbrev pub Binds : (Tables → Reply) → (p job : ℕ) → Process → Job → Bool → Move → Type 0
-Binds f p job q j above m =
+-- above: whether the job is at or above that of the process, whose record is q and is left as w
+abbrev pub Binds :
+    (Tables → Reply) → (p job : ℕ) → Process → Job → Bool → Process → Result Unit Refusal → Type 0
+Binds f p job q j above w r =
     (t : Tables) → process_at t (slot p) ≡ q → job_at t (job % 32) ≡ j → at_or_above t job q.job ≡ above →
-    moved t p m ≡ f t
+    settled t p w r ≡ f t
 
 -- ---- 11, 1c: nothing is changed --------------------------------------------------------------------
 

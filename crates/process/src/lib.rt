@@ -6,39 +6,18 @@ ghost use Rattle.std.specs.Prelude.{◌≡◌};
 ghost use Rattle.model.specs.JobCalls.{create_process, start_process, exit_process_call, kill_process};
 ghost use Rattle.model.specs.JobCalls.{set_critical_at_job, check_policy, process_information};
 ghost use Rattle.model.specs.JobPolicy.{panics_at, is_denied};
-ghost use Rattle.thread.specs.Pair.{MovesBoth};
-ghost use Rattle.process.specs.Process.{made, Makes, exiting, Exits, move, Binds, fields_of};
+ghost use Rattle.thread.specs.Pair.{SettlesBoth};
+ghost use Rattle.process.specs.Process.{Makes, Exits, Binds, fields_of};
 ghost use Rattle.process.specs.Process.{Checks, Shows};
 
 use error::{Refusal, ZxError};
-use job_policy::{ActionFound, JobPolicy, PolicyAction};
-use record_job::{FoundJob, Job};
-use record_process::{FoundProcess, Process, Status};
-use record_thread::{FoundThread, Thread};
+use job_policy::{JobPolicy, PolicyAction};
+use record_job::Job;
+use record_process::{Process, Status};
+use record_thread::Thread;
 use reply::{Fields, Shown};
-use thread::Both;
 
 // -- Making and starting ---------------------------------------------------------------------
-
-// What is made under a new name: the process, and the policy fixed for it.
-#[derive(Drop)]
-pub struct Made {
-    pub answer: i64,
-    pub process: Process,
-    pub fixed: JobPolicy,
-}
-
-impl Made {
-    fn new(q: Process, fixed: JobPolicy, answer: i64) -> Made
-        ensures { result ≡ made q fixed answer }
-    {
-        Made {
-            answer: answer,
-            process: q,
-            fixed: fixed,
-        }
-    }
-}
 
 // 03: `Process::create_with_ext`; q and fixed stand under the new name. The policy is fixed when a process is made.
 pub fn create_with_ext(
@@ -47,178 +26,146 @@ pub fn create_with_ext(
     j: Job,
     own: JobPolicy,
     inherited: JobPolicy,
-    q: Process,
-    fixed: JobPolicy,
-) -> Made
-    ensures { Makes (λ t. create_process t job new) job new j own inherited q fixed result }
+    q: &mut Process,
+    fixed: &mut JobPolicy,
+) -> Result<(), Refusal>
+    ensures { Makes (λ t. create_process t job new) job new j own inherited q.old fixed.old q.new fixed.new result }
 {
     if 32 <= job {
-        return Made::new(q, fixed, Refusal::PAST_TABLE);
+        return Err(Refusal::PastTable);
     }
     if 64 <= new {
-        return Made::new(q, fixed, Refusal::PAST_TABLE);
+        return Err(Refusal::PastTable);
     }
-    let FoundJob::OldJob(v) = j.found() else {
-        return Made::new(q, fixed, Refusal::NOT_MADE);
+    let Some(v) = j.found() else {
+        return Err(Refusal::NotMade);
     };
     if q.made {
-        return Made::new(q, fixed, Refusal::USED);
+        return Err(Refusal::Used);
     }
     if v.killed {
-        return Made::new(q, fixed, ZxError::BAD_STATE);
+        return Err(Refusal::Zx(ZxError::BadState));
     }
-    Made::new(Process::new(job), own.merge(inherited), 0)
+    *q = Process::new(job);
+    *fixed = own.merge(inherited);
+    Ok(())
 }
 
 // 04: `Process::start`.
-pub fn start(process: u8, thread: u8, q: Process, v: Thread) -> Both
-    ensures { MovesBoth (λ t. start_process t process thread) process thread q v result }
+pub fn start(process: u8, thread: u8, q: &mut Process, v: &mut Thread) -> Result<(), Refusal>
+    ensures { SettlesBoth (λ t. start_process t process thread) process thread q.old v.old q.new v.new result }
 {
     if 64 <= process {
-        return Both::new(q, v, Refusal::PAST_TABLE);
+        return Err(Refusal::PastTable);
     }
     if 128 <= thread {
-        return Both::new(q, v, Refusal::PAST_TABLE);
+        return Err(Refusal::PastTable);
     }
-    let FoundProcess::OldProcess(old) = q.found() else {
-        return Both::new(q, v, Refusal::NOT_MADE);
+    let Some(old) = q.found() else {
+        return Err(Refusal::NotMade);
     };
-    let FoundThread::OldThread(w) = v.found() else {
-        return Both::new(q, v, Refusal::NOT_MADE);
+    let Some(w) = v.found() else {
+        return Err(Refusal::NotMade);
     };
     if w.started {
-        return Both::new(q, v, Refusal::OUT_OF_TURN);
+        return Err(Refusal::OutOfTurn);
     }
     if !w.thread_of(process) {
-        return Both::new(q, v, ZxError::ACCESS_DENIED);
+        return Err(Refusal::Zx(ZxError::AccessDenied));
     }
     let status = old.status;
     if !status.is_init() {
-        return Both::new(q, v, ZxError::BAD_STATE);
+        return Err(Refusal::Zx(ZxError::BadState));
     }
-    Both::new(old.with_status(Status::Running), w.start(), 0)
+    *q = old.with_status(Status::Running);
+    *v = w.start();
+    Ok(())
 }
 
 // -- Ending ----------------------------------------------------------------------------------
 
-// What 05 and 06 come to. Where the process exits, the threads that it lists are to be killed; it ends where it lists
-// none.
-#[derive(Drop)]
-pub struct Exiting {
-    pub answer: i64,
-    pub exits: bool,
-    pub process: Process,
-}
-
-impl Exiting {
-    fn new(q: Process, answer: i64, exits: bool) -> Exiting
-        ensures { result ≡ exiting q answer exits }
-    {
-        Exiting {
-            answer: answer,
-            exits: exits,
-            process: q,
-        }
-    }
-}
-
-// 05: `Process::exit`: the first code stays.
-pub fn exit(process: u8, q: Process, code: i64) -> Exiting
-    ensures { Exits (λ t. exit_process_call t process code) process q result }
+// 05: `Process::exit`: the first code stays. `Ok(true)`: it exits now, and the threads that it lists are to be killed;
+// it ends where it lists none.
+pub fn exit(process: u8, q: &mut Process, code: i64) -> Result<bool, Refusal>
+    ensures { Exits (λ t. exit_process_call t process code) process q.old q.new result }
 {
     if 64 <= process {
-        return Exiting::new(q, Refusal::PAST_TABLE, false);
+        return Err(Refusal::PastTable);
     }
-    let FoundProcess::OldProcess(old) = q.found() else {
-        return Exiting::new(q, Refusal::NOT_MADE, false);
+    let Some(old) = q.found() else {
+        return Err(Refusal::NotMade);
     };
     let status = old.status;
     if status.is_exited() {
-        return Exiting::new(q, 0, false);
+        return Ok(false);
     }
-    Exiting::new(old.with_status(Status::Exited(code)), 0, true)
+    *q = old.with_status(Status::Exited(code));
+    Ok(true)
 }
 
 // 06: `Process::kill`.
-pub fn kill(process: u8, q: Process) -> Exiting
-    ensures { Exits (λ t. kill_process t process) process q result }
+pub fn kill(process: u8, q: &mut Process) -> Result<bool, Refusal>
+    ensures { Exits (λ t. kill_process t process) process q.old q.new result }
 {
     exit(process, q, Process::KILL_CODE)
 }
 
 // -- Binding ---------------------------------------------------------------------------------
 
-// What 07 comes to: its answer, and the process after it.
-#[derive(Drop)]
-pub struct Move {
-    pub answer: i64,
-    pub process: Process,
-}
-
-impl Move {
-    pub fn new(q: Process, answer: i64) -> Move
-        ensures { result ≡ move q answer }
-    {
-        Move {
-            answer: answer,
-            process: q,
-        }
-    }
-}
-
 // 07: `Process::set_critical_at_job`; above: the job is at or above that of the process.
-pub fn set_critical_at_job(process: u8, job: u8, flag: u8, q: Process, j: Job, above: bool) -> Move
-    ensures { Binds (λ t. set_critical_at_job t process job flag) process job q j above result }
+pub fn set_critical_at_job(
+    process: u8,
+    job: u8,
+    flag: u8,
+    q: &mut Process,
+    j: Job,
+    above: bool,
+) -> Result<(), Refusal>
+    ensures { Binds (λ t. set_critical_at_job t process job flag) process job q.old j above q.new result }
 {
     if 1 < flag {
-        return Move::new(q, Refusal::BAD_FIELD);
+        return Err(Refusal::BadField);
     }
     if 64 <= process {
-        return Move::new(q, Refusal::PAST_TABLE);
+        return Err(Refusal::PastTable);
     }
     if 32 <= job {
-        return Move::new(q, Refusal::PAST_TABLE);
+        return Err(Refusal::PastTable);
     }
-    let FoundProcess::OldProcess(old) = q.found() else {
-        return Move::new(q, Refusal::NOT_MADE);
+    let Some(old) = q.found() else {
+        return Err(Refusal::NotMade);
     };
-    let FoundJob::OldJob(_) = j.found() else {
-        return Move::new(q, Refusal::NOT_MADE);
+    let Some(_) = j.found() else {
+        return Err(Refusal::NotMade);
     };
-    let critical = old.critical;
-    if critical.is_bound() {
-        return Move::new(q, ZxError::ALREADY_BOUND);
+    if old.is_critical() {
+        return Err(Refusal::Zx(ZxError::AlreadyBound));
     }
     if !above {
-        return Move::new(q, ZxError::INVALID_ARGS);
+        return Err(Refusal::Zx(ZxError::InvalidArgs));
     }
-    Move::new(old.bind_to(job, flag == 1), 0)
+    *q = old.bind_to(job, flag == 1);
+    Ok(())
 }
 
 // -- Policy and information ------------------------------------------------------------------
 
 // The Rust has no answer for the actions 2 to 4.
-fn panics_at(found: ActionFound) -> bool
+#[tactic(auto, using(laws::proofs::Flow::branches), unfolding(model::specs::JobPolicy::panics_at))]
+fn panics_at(found: Option<u8>) -> bool
     ensures { result ≡ panics_at found }
 {
     match found {
-        ActionFound::Unset => false,
-        ActionFound::Action(action) => {
-            if action == PolicyAction::ALLOW {
-                return false;
-            }
-            action != PolicyAction::DENY
-        }
+        None | Some(PolicyAction::ALLOW | PolicyAction::DENY) => false,
+        Some(_) => true,
     }
 }
 
-fn is_denied(found: ActionFound) -> bool
+#[tactic(auto, using(laws::proofs::Flow::branches), unfolding(model::specs::JobPolicy::is_denied))]
+fn is_denied(found: Option<u8>) -> bool
     ensures { result ≡ is_denied found }
 {
-    match found {
-        ActionFound::Unset => false,
-        ActionFound::Action(action) => action == PolicyAction::DENY,
-    }
+    found == Some(PolicyAction::DENY)
 }
 
 // 11: `Process::check_policy`, by the policy fixed at its making.
@@ -231,7 +178,7 @@ pub fn check_policy(process: u8, condition: u8, q: Process, fixed: JobPolicy) ->
     if 64 <= process {
         return Shown::answered(Refusal::PAST_TABLE);
     }
-    let FoundProcess::OldProcess(_) = q.found() else {
+    let Some(_) = q.found() else {
         return Shown::answered(Refusal::NOT_MADE);
     };
     let action = fixed.get_action(condition);
@@ -266,7 +213,7 @@ pub fn get_info(process: u8, q: Process) -> Shown
     if 64 <= process {
         return Shown::answered(Refusal::PAST_TABLE);
     }
-    let FoundProcess::OldProcess(old) = q.found() else {
+    let Some(old) = q.found() else {
         return Shown::answered(Refusal::NOT_MADE);
     };
     Shown::fields(fields_of(old))

@@ -5,41 +5,40 @@
 ghost use Rattle.std.specs.Prelude.{◌≡◌};
 ghost use Rattle.model.specs.JobCalls.{create_process, start_process, exit_process_call, kill_process};
 ghost use Rattle.model.specs.JobCalls.{set_critical_at_job, check_policy, process_information};
-ghost use Rattle.process.specs.Process.{made_in, exited_in, moved};
+ghost use Rattle.process.specs.Process.{made_in, exit_settled, settled};
 
-use process::{Exiting, Made, Move};
+use error::Refusal;
+use job_policy::JobPolicy;
+use record_process::Process;
 use records::reading::{fixed_at, inherited_at, job_at, own_at, process_at, thread_at};
 use records::tables::Tables;
 use reply::Reply;
 
 // -- What a call gave, stored where the records were -------------------------------------------
 
-fn made_in(t: Tables, new: u8, m: Made) -> Reply
-    ensures { result ≡ made_in t new m }
+fn made_in(t: Tables, new: u8, q: Process, fixed: JobPolicy, outcome: Result<(), Refusal>) -> Reply
+    ensures { result ≡ made_in t new q fixed outcome }
 {
-    let q = m.process;
-    let fixed = m.fixed;
     let u = t.with_process(new % 64, q);
-    Reply::answered(u.with_fixed(new % 64, fixed), m.answer)
+    Reply::answered(u.with_fixed(new % 64, fixed), error::answer_of(outcome))
 }
 
 // Where the process exits, the threads that it lists are killed; it ends where it lists none.
-fn exited_in(t: Tables, process: u8, m: Exiting) -> Reply
-    ensures { result ≡ exited_in t process m }
+fn exit_settled(t: Tables, process: u8, q: Process, outcome: Result<bool, Refusal>) -> Reply
+    ensures { result ≡ exit_settled t process q outcome }
 {
-    let q = m.process;
     let u = t.with_process(process % 64, q);
-    if m.exits {
-        return Reply::answered(cascade::exit_listed(u, process % 64), m.answer);
+    match outcome {
+        Ok(true) => Reply::answered(cascade::exit_listed(u, process % 64), 0),
+        Ok(false) => Reply::answered(u, 0),
+        Err(refusal) => Reply::answered(u, refusal.number()),
     }
-    Reply::answered(u, m.answer)
 }
 
-pub fn moved(t: Tables, process: u8, m: Move) -> Reply
-    ensures { result ≡ moved t process m }
+fn settled(t: Tables, process: u8, q: Process, outcome: Result<(), Refusal>) -> Reply
+    ensures { result ≡ settled t process q outcome }
 {
-    let q = m.process;
-    Reply::answered(t.with_process(process % 64, q), m.answer)
+    Reply::answered(t.with_process(process % 64, q), error::answer_of(outcome))
 }
 
 // -- Making and starting -----------------------------------------------------------------------
@@ -51,22 +50,20 @@ pub fn create_with_ext(t: Tables, job: u8, new: u8) -> Reply
     let j = job_at(t, job % 32);
     let own = own_at(t, job % 32);
     let inherited = inherited_at(t, job % 32);
-    let q = process_at(t, new % 64);
-    let fixed = fixed_at(t, new % 64);
-    made_in(
-        t,
-        new,
-        process::create_with_ext(job, new, j, own, inherited, q, fixed),
-    )
+    let mut q = process_at(t, new % 64);
+    let mut fixed = fixed_at(t, new % 64);
+    let outcome = process::create_with_ext(job, new, j, own, inherited, &mut q, &mut fixed);
+    made_in(t, new, q, fixed, outcome)
 }
 
 // 04: `Process::start`.
 pub fn start(t: Tables, process: u8, thread: u8) -> Reply
     ensures { result ≡ start_process t process thread }
 {
-    let q = process_at(t, process % 64);
-    let v = thread_at(t, thread % 128);
-    thread_calls::both_moved(t, process, thread, process::start(process, thread, q, v))
+    let mut q = process_at(t, process % 64);
+    let mut v = thread_at(t, thread % 128);
+    let outcome = process::start(process, thread, &mut q, &mut v);
+    thread_calls::both_settled(t, process, thread, q, v, outcome)
 }
 
 // -- Ending and binding ------------------------------------------------------------------------
@@ -75,31 +72,30 @@ pub fn start(t: Tables, process: u8, thread: u8) -> Reply
 pub fn exit(t: Tables, process: u8, code: i64) -> Reply
     ensures { result ≡ exit_process_call t process code }
 {
-    let q = process_at(t, process % 64);
-    exited_in(t, process, process::exit(process, q, code))
+    let mut q = process_at(t, process % 64);
+    let exited = process::exit(process, &mut q, code);
+    exit_settled(t, process, q, exited)
 }
 
 // 06: `Process::kill`.
 pub fn kill(t: Tables, process: u8) -> Reply
     ensures { result ≡ kill_process t process }
 {
-    let q = process_at(t, process % 64);
-    exited_in(t, process, process::kill(process, q))
+    let mut q = process_at(t, process % 64);
+    let killed = process::kill(process, &mut q);
+    exit_settled(t, process, q, killed)
 }
 
 // 07: `Process::set_critical_at_job`.
 pub fn set_critical_at_job(t: Tables, process: u8, job: u8, flag: u8) -> Reply
     ensures { result ≡ set_critical_at_job t process job flag }
 {
-    let q = process_at(t, process % 64);
+    let mut q = process_at(t, process % 64);
     let j = job_at(t, job % 32);
     let jobs = t.jobs;
     let above = lists::at_or_above(jobs, job, q.job);
-    moved(
-        t,
-        process,
-        process::set_critical_at_job(process, job, flag, q, j, above),
-    )
+    let outcome = process::set_critical_at_job(process, job, flag, &mut q, j, above);
+    settled(t, process, q, outcome)
 }
 
 // -- Policy and information --------------------------------------------------------------------

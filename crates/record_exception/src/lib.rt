@@ -8,7 +8,7 @@ ghost use Rattle.record_exception.specs.Exception.{level_of, current_level, exce
 
 // -- Levels --------------------------------------------------------------------------------
 
-#[derive(Clone, Copy)]
+#[derive(Clone, Copy, PartialEq, Eq)]
 pub enum Level {
     Unbound,
     Bound,
@@ -21,23 +21,13 @@ impl Level {
     pub fn is_bound(self) -> bool
         ensures { result ≡ is_bound self }
     {
-        match self {
-            Level::Unbound => false,
-            Level::Bound => true,
-            Level::HungUp => false,
-            Level::Shut => false,
-        }
+        matches!(self, Level::Bound)
     }
 
     pub fn is_shut(self) -> bool
         ensures { result ≡ is_shut self }
     {
-        match self {
-            Level::Unbound => false,
-            Level::Bound => false,
-            Level::HungUp => false,
-            Level::Shut => true,
-        }
+        matches!(self, Level::Shut)
     }
 
     // The level after an exception was tried there: a hung-up one becomes unbound.
@@ -45,17 +35,15 @@ impl Level {
         ensures { result ≡ tried self }
     {
         match self {
-            Level::Unbound => Level::Unbound,
-            Level::Bound => Level::Bound,
             Level::HungUp => Level::Unbound,
-            Level::Shut => Level::Shut,
+            level => level,
         }
     }
 }
 
 // -- Exceptions ----------------------------------------------------------------------------
 
-// The numbers of ExceptionType.
+// The numbers of ExceptionType. They stay numbers: a raise takes any, and `route_of` sorts them by a match.
 #[derive(Drop)]
 pub struct ExceptionType;
 
@@ -84,7 +72,7 @@ impl ExceptionType {
 }
 
 // Where an exception waits. The order of handlers is worked out from it.
-#[derive(Clone, Copy)]
+#[derive(Clone, Copy, PartialEq, Eq)]
 pub enum Place {
     // The process debugger, first.
     Debugger,
@@ -98,7 +86,7 @@ pub enum Place {
     Exiting,
 }
 
-#[derive(Clone, Copy)]
+#[derive(Clone, Copy, PartialEq, Eq)]
 pub struct Exception {
     pub kind: u16,
     pub place: Place,
@@ -112,13 +100,11 @@ impl Place {
         ensures { result ≡ level_of self }
     {
         match self {
-            Place::Debugger => 1,
+            Place::Debugger | Place::SecondChance | Place::Exiting => 1,
             Place::OwnThread => 2,
             Place::OwnProcess => 3,
-            Place::SecondChance => 1,
             Place::OfJob(_) => 4,
             Place::OfJobDebugger(_) => 5,
-            Place::Exiting => 1,
         }
     }
 
@@ -127,13 +113,8 @@ impl Place {
         ensures { result ≡ current_level self }
     {
         match self {
-            Place::Debugger => 1,
-            Place::OwnThread => 2,
-            Place::OwnProcess => 3,
-            Place::SecondChance => 1,
-            Place::OfJob(_) => 4,
-            Place::OfJobDebugger(_) => 5,
             Place::Exiting => 0,
+            place => place.level(),
         }
     }
 }
@@ -144,10 +125,10 @@ impl Exception {
         ensures { result ≡ exception_at kind place second }
     {
         Exception {
-            kind: kind,
-            place: place,
+            kind,
+            place,
             handled: false,
-            second: second,
+            second,
         }
     }
 }

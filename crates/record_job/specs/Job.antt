@@ -1,15 +1,12 @@
 -- The record of a job. Follows job.rs.
+use Rattle.std.specs.Prelude.{Option, Some, None}
 use Rattle.std.specs.Prelude.{ℕ, Bool, true, false}
 use Rattle.laws.specs.Choice.{◌=?◌, ◌and◌, if◌then◌otherwise◌}
 use Rattle.job_policy.specs.Slack.{fresh_slack}
 use Rattle.job_policy.specs.declared.TimerSlack.{TimerSlack}
 use Rattle.record_exception.specs.declared.Level.{Level}
 use Rattle.record_exception.specs.declared.Level.TheVariants.{Unbound, Shut}
-use Rattle.record_job.specs.declared.Parent.{Parent}
-use Rattle.record_job.specs.declared.Parent.TheVariants.{Orphan, ChildOf}
 use Rattle.record_job.specs.declared.Job.{Job}
-use Rattle.record_job.specs.declared.FoundJob.{FoundJob}
-use Rattle.record_job.specs.declared.FoundJob.TheVariants.{NoJob, OldJob}
 
 -- never made
 abbrev pub no_job : Job
@@ -19,7 +16,7 @@ no_job =
       listed = false;
       killed = false;
       terminated = false;
-      parent = Orphan;
+      parent = None;
       level4 = Unbound;
       level5 = Unbound;
       slack = fresh_slack;
@@ -33,7 +30,7 @@ root_job =
       listed = false;
       killed = false;
       terminated = false;
-      parent = Orphan;
+      parent = None;
       level4 = Unbound;
       level5 = Unbound;
       slack = fresh_slack;
@@ -47,7 +44,7 @@ new_job parent =
       listed = true;
       killed = false;
       terminated = false;
-      parent = ChildOf parent;
+      parent = Some parent;
       level4 = Unbound;
       level5 = Unbound;
       slack = fresh_slack;
@@ -119,9 +116,9 @@ with_level5 v l =
       slack = v.slack;
     }
 
-abbrev pub is_parent : Parent → ℕ → Bool
-is_parent Orphan j = false
-is_parent (ChildOf p) j = p =? j
+abbrev pub is_parent : Option ℕ → ℕ → Bool
+is_parent None j = false
+is_parent (Some p) j = p =? j
 
 -- on the list of job j
 unfoldable pub child_of : Job → ℕ → Bool
@@ -130,5 +127,5 @@ child_of v j = v.listed and is_parent v.parent j
 -- ---- Looking up a name ---------------------------------------------------------------------
 
 -- a made job, or none
-unfoldable pub found_job_in : Job → FoundJob
-found_job_in v = if v.made then OldJob v otherwise NoJob
+unfoldable pub found_job_in : Job → Option Job
+found_job_in v = if v.made then Some v otherwise None

@@ -9,44 +9,19 @@ ghost use Rattle.record_job.specs.Job.{with_level4, with_level5, is_parent, chil
 use job_policy::TimerSlack;
 use record_exception::Level;
 
-// The root and an unmade job have no parent.
-#[derive(Clone, Copy)]
-pub enum Parent {
-    Orphan,
-    ChildOf(u8),
-}
-
-#[derive(Clone, Copy)]
+#[derive(Clone, Copy, PartialEq, Eq)]
 pub struct Job {
     pub made: bool,
     // On its parent's list.
     pub listed: bool,
     pub killed: bool,
     pub terminated: bool,
-    pub parent: Parent,
+    // The root and an unmade job have none.
+    pub parent: Option<u8>,
     // Exception channels: level 4 (job) and level 5 (job debugger).
     pub level4: Level,
     pub level5: Level,
     pub slack: TimerSlack,
-}
-
-// What the name of a job stands for: a record, or an absence.
-#[derive(Clone, Copy)]
-pub enum FoundJob {
-    NoJob,
-    OldJob(Job),
-}
-
-impl Parent {
-    // Whether it is the job of this name.
-    fn is(self, name: u8) -> bool
-        ensures { result ≡ is_parent self name }
-    {
-        match self {
-            Parent::Orphan => false,
-            Parent::ChildOf(p) => p == name,
-        }
-    }
 }
 
 impl Job {
@@ -59,7 +34,7 @@ impl Job {
             listed: false,
             killed: false,
             terminated: false,
-            parent: Parent::Orphan,
+            parent: None,
             level4: Level::Unbound,
             level5: Level::Unbound,
             slack: TimerSlack::fresh(),
@@ -72,13 +47,7 @@ impl Job {
     {
         Job {
             made: true,
-            listed: false,
-            killed: false,
-            terminated: false,
-            parent: Parent::Orphan,
-            level4: Level::Unbound,
-            level5: Level::Unbound,
-            slack: TimerSlack::fresh(),
+            ..Job::none()
         }
     }
 
@@ -89,12 +58,8 @@ impl Job {
         Job {
             made: true,
             listed: true,
-            killed: false,
-            terminated: false,
-            parent: Parent::ChildOf(parent),
-            level4: Level::Unbound,
-            level5: Level::Unbound,
-            slack: TimerSlack::fresh(),
+            parent: Some(parent),
+            ..Job::none()
         }
     }
 
@@ -109,76 +74,42 @@ impl Job {
     pub fn terminated(self) -> Job
         ensures { result ≡ terminated self }
     {
-        let parent = self.parent;
-        let slack = self.slack;
         Job {
-            made: self.made,
             listed: false,
-            killed: self.killed,
             terminated: true,
-            parent: parent,
             level4: Level::Shut,
             level5: Level::Shut,
-            slack: slack,
+            ..self
         }
     }
 
-    pub fn with_level4(self, level: Level) -> Job
+    pub fn with_level4(mut self, level: Level) -> Job
         ensures { result ≡ with_level4 self level }
     {
-        let parent = self.parent;
-        let level5 = self.level5;
-        let slack = self.slack;
-        Job {
-            made: self.made,
-            listed: self.listed,
-            killed: self.killed,
-            terminated: self.terminated,
-            parent: parent,
-            level4: level,
-            level5: level5,
-            slack: slack,
-        }
+        self.level4 = level;
+        self
     }
 
-    pub fn with_level5(self, level: Level) -> Job
+    pub fn with_level5(mut self, level: Level) -> Job
         ensures { result ≡ with_level5 self level }
     {
-        let parent = self.parent;
-        let level4 = self.level4;
-        let slack = self.slack;
-        Job {
-            made: self.made,
-            listed: self.listed,
-            killed: self.killed,
-            terminated: self.terminated,
-            parent: parent,
-            level4: level4,
-            level5: level,
-            slack: slack,
-        }
+        self.level5 = level;
+        self
     }
 
     // Whether it is on the list of the job of this name.
+    #[tactic(auto, using(laws::proofs::Flow::branches), unfolding(crate::specs::Job::child_of))]
     pub fn child_of(self, name: u8) -> bool
         ensures { result ≡ child_of self name }
     {
-        let parent = self.parent;
-        if self.listed {
-            return parent.is(name);
-        }
-        false
+        self.listed && self.parent == Some(name)
     }
-}
 
-impl Job {
     // A made job, or none.
-    pub fn found(self) -> FoundJob
+    #[tactic(auto, using(laws::proofs::Flow::branches), unfolding(crate::specs::Job::found_job_in))]
+    pub fn found(self) -> Option<Job>
         ensures { result ≡ found_job_in self }
     {
-        if self.made {
-            return FoundJob::OldJob(self);
-        }
-        FoundJob::NoJob
+        self.made.then_some(self)
     }
 }

@@ -1,4 +1,5 @@
 -- The record of a process. Follows process.rs.
+use Rattle.std.specs.Prelude.{Option, Some, None}
 use Rattle.std.specs.Prelude.{ℕ, Bool, true, false, not, ℤ, pos}
 use Rattle.laws.specs.Choice.{◌=?◌, ◌and◌, is_zero, minus, if◌then◌otherwise◌}
 use Rattle.record_exception.specs.declared.Level.{Level}
@@ -6,10 +7,7 @@ use Rattle.record_exception.specs.declared.Level.TheVariants.{Unbound, Shut}
 use Rattle.record_process.specs.declared.Status.{Status}
 use Rattle.record_process.specs.declared.Status.TheVariants.{Init, Running, Exited}
 use Rattle.record_process.specs.declared.Critical.{Critical}
-use Rattle.record_process.specs.declared.Critical.TheVariants.{Free, To}
 use Rattle.record_process.specs.declared.Process.{Process}
-use Rattle.record_process.specs.declared.FoundProcess.{FoundProcess}
-use Rattle.record_process.specs.declared.FoundProcess.TheVariants.{NoProcess, OldProcess}
 
 -- the code of a killed process, TASK_RETCODE_SYSCALL_KILL
 abbrev pub KILL_CODE : ℤ
@@ -24,7 +22,7 @@ no_process =
       terminated = false;
       job = 0;
       status = Init;
-      critical = Free;
+      critical = None;
       level1 = Unbound;
       level3 = Unbound;
     }
@@ -38,7 +36,7 @@ new_process j =
       terminated = false;
       job = j;
       status = Init;
-      critical = Free;
+      critical = None;
       level1 = Unbound;
       level3 = Unbound;
     }
@@ -90,9 +88,12 @@ ended_with q code =
 unfoldable pub ended : Process → Process
 ended q = ended_with q (code_of q.status)
 
-abbrev pub is_critical : Critical → Bool
-is_critical Free = false
-is_critical (To j nonzero) = true
+abbrev pub is_critical : Option Critical → Bool
+is_critical None = false
+is_critical (Some b) = true
+
+abbrev pub critical_to : ℕ → Bool → Option Critical
+critical_to j nonzero = Some (record { job = j; nonzero = nonzero })
 
 -- bound critical to job j
 abbrev pub bind_to : Process → ℕ → Bool → Process
@@ -103,7 +104,7 @@ bind_to q j nonzero =
       terminated = q.terminated;
       job = q.job;
       status = q.status;
-      critical = To j nonzero;
+      critical = critical_to j nonzero;
       level1 = q.level1;
       level3 = q.level3;
     }
@@ -146,5 +147,5 @@ member_of q j = q.listed and (q.job =? j)
 -- ---- Looking up a name ---------------------------------------------------------------------
 
 -- a made process, or none
-unfoldable pub found_process_in : Process → FoundProcess
-found_process_in q = if q.made then OldProcess q otherwise NoProcess
+unfoldable pub found_process_in : Process → Option Process
+found_process_in q = if q.made then Some q otherwise None

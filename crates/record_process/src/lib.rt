@@ -10,7 +10,7 @@ ghost use Rattle.record_process.specs.Process.{member_of};
 
 use record_exception::Level;
 
-#[derive(Clone, Copy)]
+#[derive(Clone, Copy, PartialEq, Eq)]
 pub enum Status {
     Init,
     Running,
@@ -18,13 +18,13 @@ pub enum Status {
 }
 
 // The job that the end of a process kills, and whether only a nonzero code does so.
-#[derive(Clone, Copy)]
-pub enum Critical {
-    Free,
-    To { job: u8, nonzero: bool },
+#[derive(Clone, Copy, PartialEq, Eq)]
+pub struct Critical {
+    pub job: u8,
+    pub nonzero: bool,
 }
 
-#[derive(Clone, Copy)]
+#[derive(Clone, Copy, PartialEq, Eq)]
 pub struct Process {
     pub made: bool,
     // On its job's list.
@@ -33,17 +33,10 @@ pub struct Process {
     pub terminated: bool,
     pub job: u8,
     pub status: Status,
-    pub critical: Critical,
+    pub critical: Option<Critical>,
     // Exception channels: level 1 (process debugger) and level 3 (process).
     pub level1: Level,
     pub level3: Level,
-}
-
-// What the name of a process stands for: a record, or an absence.
-#[derive(Clone, Copy)]
-pub enum FoundProcess {
-    NoProcess,
-    OldProcess(Process),
 }
 
 impl Status {
@@ -52,50 +45,32 @@ impl Status {
         ensures { result ≡ code_of self }
     {
         match self {
-            Status::Init => 0,
-            Status::Running => 0,
             Status::Exited(code) => code,
+            Status::Init | Status::Running => 0,
         }
     }
 
     pub fn is_init(self) -> bool
         ensures { result ≡ is_init self }
     {
-        match self {
-            Status::Init => true,
-            Status::Running => false,
-            Status::Exited(_) => false,
-        }
+        matches!(self, Status::Init)
     }
 
     pub fn is_exited(self) -> bool
         ensures { result ≡ is_exited self }
     {
-        match self {
-            Status::Init => false,
-            Status::Running => false,
-            Status::Exited(_) => true,
-        }
+        matches!(self, Status::Exited(_))
     }
 }
 
 impl Critical {
-    // Whether it is bound to a job.
-    pub fn is_bound(self) -> bool
-        ensures { result ≡ is_critical self }
+    // Whether the binding acts at the end of a process with this code.
+    #[tactic(auto, using(laws::proofs::Flow::branches), unfolding(crate::specs::Process::acts))]
+    pub fn acts(self, code: i64) -> bool
+        ensures { result ≡ acts self.nonzero code }
     {
-        match self {
-            Critical::Free => false,
-            Critical::To { job: _, nonzero: _ } => true,
-        }
+        !self.nonzero || code != 0
     }
-}
-
-// Whether a binding acts at the end of a process with this code.
-pub fn binding_acts(nonzero: bool, code: i64) -> bool
-    ensures { result ≡ acts nonzero code }
-{
-    if nonzero { code != 0 } else { true }
 }
 
 impl Process {
@@ -112,7 +87,7 @@ impl Process {
             terminated: false,
             job: 0,
             status: Status::Init,
-            critical: Critical::Free,
+            critical: None,
             level1: Level::Unbound,
             level3: Level::Unbound,
         }
@@ -125,129 +100,75 @@ impl Process {
         Process {
             made: true,
             listed: true,
-            terminated: false,
-            job: job,
-            status: Status::Init,
-            critical: Critical::Free,
-            level1: Level::Unbound,
-            level3: Level::Unbound,
+            job,
+            ..Process::none()
         }
     }
 
-    pub fn with_status(self, status: Status) -> Process
+    pub fn with_status(mut self, status: Status) -> Process
         ensures { result ≡ with_status self status }
     {
-        let critical = self.critical;
-        let level1 = self.level1;
-        let level3 = self.level3;
-        Process {
-            made: self.made,
-            listed: self.listed,
-            terminated: self.terminated,
-            job: self.job,
-            status: status,
-            critical: critical,
-            level1: level1,
-            level3: level3,
-        }
+        self.status = status;
+        self
     }
 
     // A process that ends: Exited with its code, or with 0, its channels shut and off its job's list.
+    #[tactic(auto, unfolding(crate::specs::Process::ended))]
     pub fn ended(self) -> Process
         ensures { result ≡ ended self }
     {
-        let status = self.status;
-        let critical = self.critical;
-        let exited = Status::Exited(status.code());
         Process {
-            made: self.made,
             listed: false,
             terminated: true,
-            job: self.job,
-            status: exited,
-            critical: critical,
+            status: Status::Exited(self.status.code()),
             level1: Level::Shut,
             level3: Level::Shut,
+            ..self
         }
     }
 
     // The process bound critical to a job.
-    pub fn bind_to(self, job: u8, nonzero: bool) -> Process
+    pub fn bind_to(mut self, job: u8, nonzero: bool) -> Process
         ensures { result ≡ bind_to self job nonzero }
     {
-        let status = self.status;
-        let level1 = self.level1;
-        let level3 = self.level3;
-        Process {
-            made: self.made,
-            listed: self.listed,
-            terminated: self.terminated,
-            job: self.job,
-            status: status,
-            critical: Critical::To {
-                job: job,
-                nonzero: nonzero,
-            },
-            level1: level1,
-            level3: level3,
-        }
+        self.critical = Some(Critical { job, nonzero });
+        self
     }
 
-    pub fn with_level1(self, level: Level) -> Process
+    pub fn with_level1(mut self, level: Level) -> Process
         ensures { result ≡ with_level1 self level }
     {
-        let status = self.status;
-        let critical = self.critical;
-        let level3 = self.level3;
-        Process {
-            made: self.made,
-            listed: self.listed,
-            terminated: self.terminated,
-            job: self.job,
-            status: status,
-            critical: critical,
-            level1: level,
-            level3: level3,
-        }
+        self.level1 = level;
+        self
     }
 
-    pub fn with_level3(self, level: Level) -> Process
+    pub fn with_level3(mut self, level: Level) -> Process
         ensures { result ≡ with_level3 self level }
     {
-        let status = self.status;
-        let critical = self.critical;
-        let level1 = self.level1;
-        Process {
-            made: self.made,
-            listed: self.listed,
-            terminated: self.terminated,
-            job: self.job,
-            status: status,
-            critical: critical,
-            level1: level1,
-            level3: level,
-        }
+        self.level3 = level;
+        self
+    }
+
+    // Whether it is bound to a job.
+    pub fn is_critical(self) -> bool
+        ensures { result ≡ is_critical self.critical }
+    {
+        self.critical.is_some()
     }
 
     // Whether it is on the list of the job of this name.
+    #[tactic(auto, using(laws::proofs::Flow::branches), unfolding(crate::specs::Process::member_of))]
     pub fn member_of(self, name: u8) -> bool
         ensures { result ≡ member_of self name }
     {
-        if self.listed {
-            return self.job == name;
-        }
-        false
+        self.listed && self.job == name
     }
-}
 
-impl Process {
     // A made process, or none.
-    pub fn found(self) -> FoundProcess
+    #[tactic(auto, using(laws::proofs::Flow::branches), unfolding(crate::specs::Process::found_process_in))]
+    pub fn found(self) -> Option<Process>
         ensures { result ≡ found_process_in self }
     {
-        if self.made {
-            return FoundProcess::OldProcess(self);
-        }
-        FoundProcess::NoProcess
+        self.made.then_some(self)
     }
 }

@@ -1,20 +1,18 @@
 -- The record of a thread. Follows thread.rs. States are the numbers of ThreadState.
+use Rattle.std.specs.Prelude.{Option, Some, None}
 use Rattle.std.specs.Prelude.{ℕ, ◌+◌, ◌-◌, Bool, true, false, not}
 use Rattle.laws.specs.Choice.{◌=?◌, ◌and◌, ◌or◌, if◌then◌otherwise◌}
+use Rattle.record_exception.specs.declared.Exception.{Exception}
 use Rattle.record_exception.specs.declared.Level.{Level}
 use Rattle.record_exception.specs.declared.Level.TheVariants.{Unbound, Shut}
 use Rattle.record_thread.specs.declared.Waiting.{Waiting}
 use Rattle.record_thread.specs.declared.Waiting.TheVariants.{NotWaiting, InWait}
 use Rattle.record_thread.specs.declared.Waiting.TheVariants.{InException}
-use Rattle.record_thread.specs.declared.FoundException.{FoundException}
-use Rattle.record_thread.specs.declared.FoundException.TheVariants.{NoException, Held}
 use Rattle.record_thread.specs.declared.Signals.{Signals}
 use Rattle.record_thread.specs.declared.Signals.TheVariants.{NoSignal, RunningSignal}
 use Rattle.record_thread.specs.declared.Signals.TheVariants.{SuspendedSignal}
 use Rattle.record_thread.specs.declared.Signals.TheVariants.{TerminatedSignal}
 use Rattle.record_thread.specs.declared.Thread.{Thread}
-use Rattle.record_thread.specs.declared.FoundThread.{FoundThread}
-use Rattle.record_thread.specs.declared.FoundThread.TheVariants.{NoThread, OldThread}
 
 -- ---- States --------------------------------------------------------------------------------
 
@@ -82,13 +80,13 @@ waits_plainly (InException e) = false
 abbrev pub is_in_wait : Thread → Bool
 is_in_wait v = waits_plainly v.waiting
 
-abbrev pub held_in : Waiting → FoundException
-held_in NotWaiting = NoException
-held_in InWait = NoException
-held_in (InException e) = Held e
+abbrev pub held_in : Waiting → Option Exception
+held_in NotWaiting = None
+held_in InWait = None
+held_in (InException e) = Some e
 
 -- the exception that a handler has
-abbrev pub exception_of : Thread → FoundException
+abbrev pub exception_of : Thread → Option Exception
 exception_of v = held_in v.waiting
 
 -- on the list of process p
@@ -245,5 +243,5 @@ with_level2 v l =
 -- ---- Looking up a name ---------------------------------------------------------------------
 
 -- a made thread, or none
-unfoldable pub found_thread_in : Thread → FoundThread
-found_thread_in v = if v.made then OldThread v otherwise NoThread
+unfoldable pub found_thread_in : Thread → Option Thread
+found_thread_in v = if v.made then Some v otherwise None

@@ -4,14 +4,14 @@
 ghost use Rattle.std.specs.Prelude.{◌≡◌};
 ghost use Rattle.record_thread.specs.Thread.{found_thread_in};
 ghost use Rattle.record_thread.specs.Thread.{no_thread, new_thread, thread_of};
-ghost use Rattle.record_thread.specs.Thread.{without_exception, start, kill, exit, finish};
+ghost use Rattle.record_thread.specs.Thread.{without_exception, dying, start, kill, exit, finish};
 ghost use Rattle.record_thread.specs.Thread.{suspend, resume, waits, end_wait, with_level2};
 
 use record_exception::{Exception, Level};
 
 mod state;
 
-// The numbers of ThreadState.
+// The numbers of ThreadState, as the records keep them: the scope asks for constants of the type.
 #[derive(Drop)]
 pub struct ThreadState;
 
@@ -48,7 +48,7 @@ impl ThreadState {
 }
 
 // What a thread waits for: nothing, the end of a plain wait, or a handler.
-#[derive(Clone, Copy)]
+#[derive(Clone, Copy, PartialEq, Eq)]
 pub enum Waiting {
     NotWaiting,
     InWait,
@@ -56,7 +56,7 @@ pub enum Waiting {
 }
 
 // The signals that a thread's shown state asserts.
-#[derive(Clone, Copy)]
+#[derive(Clone, Copy, PartialEq, Eq)]
 pub enum Signals {
     NoSignal,
     RunningSignal,
@@ -64,7 +64,7 @@ pub enum Signals {
     TerminatedSignal,
 }
 
-#[derive(Clone, Copy)]
+#[derive(Clone, Copy, PartialEq, Eq)]
 pub struct Thread {
     pub made: bool,
     // On its process's list.
@@ -82,20 +82,6 @@ pub struct Thread {
     pub level2: Level,
 }
 
-// What the name of a thread stands for: a record, or an absence.
-#[derive(Clone, Copy)]
-pub enum FoundThread {
-    NoThread,
-    OldThread(Thread),
-}
-
-// An exception that a handler has, or none.
-#[derive(Clone, Copy)]
-pub enum FoundException {
-    NoException,
-    Held(Exception),
-}
-
 // -- Tests ---------------------------------------------------------------------------------
 
 // What is left of a wait when the thread is stopped: a plain wait stays until it is polled, an exception is gone.
@@ -103,21 +89,18 @@ fn without_exception(waiting: Waiting) -> Waiting
     ensures { result ≡ without_exception waiting }
 {
     match waiting {
-        Waiting::NotWaiting => Waiting::NotWaiting,
-        Waiting::InWait => Waiting::InWait,
         Waiting::InException(_) => Waiting::NotWaiting,
+        waiting => waiting,
     }
 }
 
 impl Thread {
     // Whether it is on the list of the process of this name.
+    #[tactic(auto, using(laws::proofs::Flow::branches), unfolding(crate::specs::Thread::thread_of))]
     pub fn thread_of(self, name: u8) -> bool
         ensures { result ≡ thread_of self name }
     {
-        if self.listed {
-            return self.process == name;
-        }
-        false
+        self.listed && self.process == name
     }
 }
 
@@ -148,13 +131,8 @@ impl Thread {
         Thread {
             made: true,
             listed: true,
-            started: false,
-            killed: false,
-            process: process,
-            state: ThreadState::NEW,
-            suspends: 0,
-            waiting: Waiting::NotWaiting,
-            level2: Level::Unbound,
+            process,
+            ..Thread::none()
         }
     }
 
@@ -167,52 +145,37 @@ impl Thread {
         self
     }
 
+    // Stopped: an exception is over, and the kill is noted if it is one.
+    fn dying(self, killed: bool) -> Thread
+        ensures { result ≡ dying self killed }
+    {
+        Thread {
+            killed,
+            state: ThreadState::DYING,
+            waiting: without_exception(self.waiting),
+            ..self
+        }
+    }
+
     // `stop(true)`: Dying, the kill noted, an exception over. A Dead thread stays as it is.
+    #[tactic(auto, using(laws::proofs::Flow::branches), unfolding(crate::specs::Thread::kill))]
     pub fn kill(self) -> Thread
         ensures { result ≡ kill self }
     {
         if self.state == ThreadState::DEAD {
             return self;
         }
-        let waiting = self.waiting;
-        let left = without_exception(waiting);
-        let level2 = self.level2;
-        Thread {
-            made: self.made,
-            listed: self.listed,
-            started: self.started,
-            killed: true,
-            process: self.process,
-            state: ThreadState::DYING,
-            suspends: self.suspends,
-            waiting: left,
-            level2: level2,
-        }
+        self.dying(true)
     }
 
     // `stop(false)`, the thread's own exit: Dying, no kill noted. A Dying or Dead thread stays as it is.
+    #[tactic(auto, using(laws::proofs::Flow::branches), unfolding(crate::specs::Thread::exit))]
     pub fn exit(self) -> Thread
         ensures { result ≡ exit self }
     {
-        if self.state == ThreadState::DEAD {
-            return self;
-        }
-        if self.state == ThreadState::DYING {
-            return self;
-        }
-        let waiting = self.waiting;
-        let left = without_exception(waiting);
-        let level2 = self.level2;
-        Thread {
-            made: self.made,
-            listed: self.listed,
-            started: self.started,
-            killed: self.killed,
-            process: self.process,
-            state: ThreadState::DYING,
-            suspends: self.suspends,
-            waiting: left,
-            level2: level2,
+        match self.state {
+            ThreadState::DYING | ThreadState::DEAD => self,
+            _ => self.dying(self.killed),
         }
     }
 
@@ -220,41 +183,29 @@ impl Thread {
     pub fn finish(self) -> Thread
         ensures { result ≡ finish self }
     {
-        let waiting = self.waiting;
         Thread {
-            made: self.made,
             listed: false,
-            started: self.started,
-            killed: self.killed,
-            process: self.process,
             state: ThreadState::DEAD,
-            suspends: self.suspends,
-            waiting: waiting,
             level2: Level::Shut,
+            ..self
         }
     }
 
     // One more suspension; a full count stays full.
+    #[tactic(auto, using(laws::proofs::Flow::branches), unfolding(crate::specs::Thread::suspend))]
     pub fn suspend(mut self) -> Thread
         ensures { result ≡ suspend self }
     {
-        let count = self.suspends;
-        if count == 65535 {
-            return self;
-        }
-        self.suspends = count + 1;
+        self.suspends = self.suspends.saturating_add(1);
         self
     }
 
     // One suspension less; none stays none.
+    #[tactic(auto, using(laws::proofs::Flow::branches), unfolding(crate::specs::Thread::resume))]
     pub fn resume(mut self) -> Thread
         ensures { result ≡ resume self }
     {
-        let count = self.suspends;
-        if count == 0 {
-            return self;
-        }
-        self.suspends = count - 1;
+        self.suspends = self.suspends.saturating_sub(1);
         self
     }
 
@@ -262,21 +213,15 @@ impl Thread {
     pub fn waits(self, state: u16, waiting: Waiting) -> Thread
         ensures { result ≡ waits self state waiting }
     {
-        let level2 = self.level2;
         Thread {
-            made: self.made,
-            listed: self.listed,
-            started: self.started,
-            killed: self.killed,
-            process: self.process,
-            state: state,
-            suspends: self.suspends,
-            waiting: waiting,
-            level2: level2,
+            state,
+            waiting,
+            ..self
         }
     }
 
     // A wait that is over: Running again, unless Dying.
+    #[tactic(auto, using(laws::proofs::Flow::branches), unfolding(crate::specs::Thread::end_wait))]
     pub fn end_wait(self) -> Thread
         ensures { result ≡ end_wait self }
     {
@@ -286,32 +231,18 @@ impl Thread {
         self.waits(ThreadState::RUNNING, Waiting::NotWaiting)
     }
 
-    pub fn with_level2(self, level: Level) -> Thread
+    pub fn with_level2(mut self, level: Level) -> Thread
         ensures { result ≡ with_level2 self level }
     {
-        let waiting = self.waiting;
-        Thread {
-            made: self.made,
-            listed: self.listed,
-            started: self.started,
-            killed: self.killed,
-            process: self.process,
-            state: self.state,
-            suspends: self.suspends,
-            waiting: waiting,
-            level2: level,
-        }
+        self.level2 = level;
+        self
     }
-}
 
-impl Thread {
     // A made thread, or none.
-    pub fn found(self) -> FoundThread
+    #[tactic(auto, using(laws::proofs::Flow::branches), unfolding(crate::specs::Thread::found_thread_in))]
+    pub fn found(self) -> Option<Thread>
         ensures { result ≡ found_thread_in self }
     {
-        if self.made {
-            return FoundThread::OldThread(self);
-        }
-        FoundThread::NoThread
+        self.made.then_some(self)
     }
 }

@@ -1,9 +1,8 @@
 -- The record of a suspend token. Follows suspend_token.rs.
+use Rattle.std.specs.Prelude.{Option, Some, None}
 use Rattle.std.specs.Prelude.{ℕ, true, false}
 use Rattle.laws.specs.Choice.{if◌then◌otherwise◌}
 use Rattle.record_token.specs.declared.SuspendToken.{SuspendToken}
-use Rattle.record_token.specs.declared.FoundToken.{FoundToken}
-use Rattle.record_token.specs.declared.FoundToken.TheVariants.{NoToken, OldToken}
 
 -- never made
 abbrev pub no_token : SuspendToken
@@ -20,5 +19,5 @@ drop k = record { made = k.made; held = false; kind = 0; name = 0 }
 -- ---- Looking up a name ---------------------------------------------------------------------
 
 -- a token that still holds its task, or none: a dropped one is not found
-unfoldable pub found_token_in : SuspendToken → FoundToken
-found_token_in k = if k.held then OldToken k otherwise NoToken
+unfoldable pub found_token_in : SuspendToken → Option SuspendToken
+found_token_in k = if k.held then Some k otherwise None

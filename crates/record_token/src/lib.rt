@@ -17,19 +17,12 @@ impl Kind {
     pub const THREAD: u8 = 2;
 }
 
-#[derive(Clone, Copy)]
+#[derive(Clone, Copy, PartialEq, Eq)]
 pub struct SuspendToken {
     pub made: bool,
     pub held: bool,
     pub kind: u8,
     pub name: u8,
-}
-
-// What the name of a token stands for: a record, or an absence.
-#[derive(Clone, Copy)]
-pub enum FoundToken {
-    NoToken,
-    OldToken(SuspendToken),
 }
 
 impl SuspendToken {
@@ -52,8 +45,8 @@ impl SuspendToken {
         SuspendToken {
             made: true,
             held: true,
-            kind: kind,
-            name: name,
+            kind,
+            name,
         }
     }
 
@@ -66,16 +59,12 @@ impl SuspendToken {
         self.name = 0;
         self
     }
-}
 
-impl SuspendToken {
     // A token that still holds its task, or none: a dropped one is not found.
-    pub fn found(self) -> FoundToken
+    #[tactic(auto, using(laws::proofs::Flow::branches), unfolding(crate::specs::SuspendToken::found_token_in))]
+    pub fn found(self) -> Option<SuspendToken>
         ensures { result ≡ found_token_in self }
     {
-        if self.held {
-            return FoundToken::OldToken(self);
-        }
-        FoundToken::NoToken
+        self.held.then_some(self)
     }
 }

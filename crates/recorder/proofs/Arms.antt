@@ -18,6 +18,7 @@ use Rattle.record_process.specs.declared.Process.{Process}
 use Rattle.record_process.specs.Process.{no_process, ended}
 use Rattle.record_thread.specs.declared.Thread.{Thread}
 use Rattle.record_token.specs.declared.SuspendToken.{SuspendToken}
+use Rattle.thread_lists.specs.declared.Each.{Each}
 use Rattle.thread_lists.specs.declared.Changed.{Changed}
 use Rattle.thread_lists.specs.Each.{each_unless, has_count}
 use Rattle.thread_lists.proofs.Unless.{full_bars, none_bars}
@@ -28,10 +29,10 @@ use Rattle.reply.specs.declared.Reply.{Reply}
 use Rattle.reply.specs.Reply.{reply, answered}
 use Rattle.model.specs.Job.{remove_thread, exit_listed, kill_job}
 use Rattle.model.specs.SuspendToken.{PROCESS}
-use Rattle.thread.specs.declared.Finishing.{Finishing}
-use Rattle.thread.specs.Move.{finished}
-use Rattle.process.specs.declared.Exiting.{Exiting}
-use Rattle.process.specs.Process.{exited_in}
+use Rattle.calls.specs.declared.Finishing.{Finishing}
+use Rattle.calls.specs.Finishing.{finished}
+use Rattle.calls.specs.declared.Exiting.{Exiting}
+use Rattle.calls.specs.Groups.{exited_in}
 use Rattle.cascade.specs.Ends.{ends_here}
 use Rattle.cascade.proofs.Ends.{ends_here_lem}
 use Rattle.exception.specs.declared.Raised.{Raised}
@@ -146,7 +147,7 @@ module _ (t : Tables) (n : ℕ) (v : Thread) (m : Raised) {x : Reply} (h : raise
 
 -- ---- A task, and a token -------------------------------------------------------------------------------
 
-module _ (k : ℕ) (t : Tables) (token kind n : ℕ) (m : Token) {x : Reply} (h : token_in k t token kind n m ≡ x) where
+module _ (k : Each) (t : Tables) (token kind n : ℕ) (m : Token) {x : Reply} (h : token_in k t token kind n m ≡ x) where
   -- the thread alone
   pub task_one : (kind =? PROCESS) and m.task.each ≡ false →
       answered (put_token (put_thread t (n % 128) m.task.thread) (token % 64) m.token) m.task.answer ≡ x
@@ -154,7 +155,7 @@ module _ (k : ℕ) (t : Tables) (token kind n : ℕ) (m : Token) {x : Reply} (h 
   task_one e = (rw e) ∙ h
 
   -- each thread of a process
-  pub task_each : (kind =? PROCESS) and m.task.each ≡ true → {i : ℕ} {y : Changed} → i ≡ k →
+  pub task_each : (kind =? PROCESS) and m.task.each ≡ true → {i : Each} {y : Changed} → i ≡ k →
       y ≡ each_unless i n t.threads →
       answered (put_token (with_threads t y.threads) (token % 64) m.token) m.task.answer ≡ x
   unfolding token_in changed if◌then◌otherwise◌
@@ -193,7 +194,7 @@ task_call_lem t Suspend token kind n k e = rw e
 task_call_lem t Resume token kind n k e = rw e
 
 -- whether a thread concerned bars the change
-pub bars_it : (c : TaskCall) (p : ℕ) (l : List Thread) {k : ℕ} {x : Changed} → k ≡ each_of c → x ≡ each_unless k p l →
+pub bars_it : (c : TaskCall) (p : ℕ) (l : List Thread) {k : Each} {x : Changed} → k ≡ each_of c → x ≡ each_unless k p l →
     any (has_count p (barring c)) l ≡ x.barred
 unfolding each_of barring
 bars_it CreateToken p l f e = rw (e, f) (full_bars p l)

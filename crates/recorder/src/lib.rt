@@ -207,7 +207,7 @@ pub fn feed(state: State, input: &[u8], out: &mut [u8]) -> Fed
                     Command::CreateChild(a, b) => {
                         let j = (a % 32) as usize;
                         let x = (b % 32) as usize;
-                        let m = job::create_child(
+                        let m = calls::create_child(
                             a,
                             b,
                             t.jobs[j],
@@ -225,20 +225,20 @@ pub fn feed(state: State, input: &[u8], out: &mut [u8]) -> Fed
                     Command::CreateProcess(a, b) => {
                         let j = (a % 32) as usize;
                         let p = (b % 64) as usize;
-                        let m = process::create_with_ext(
+                        let mut process = t.processes[p];
+                        let mut fixed = t.fixed[p];
+                        let made = process::create_with_ext(
                             a,
                             b,
                             t.jobs[j],
                             t.own[j],
                             t.inherited[j],
-                            t.processes[p],
-                            t.fixed[p],
+                            &mut process,
+                            &mut fixed,
                         );
-                        let process = m.process;
-                        let fixed = m.fixed;
                         t.processes[p] = process;
                         t.fixed[p] = fixed;
-                        written = lines::put_answer(out, written, number, m.answer);
+                        written = lines::put_answer(out, written, number, error::answer_of(made));
                     }
                 }
             }

@@ -4,6 +4,7 @@
 --     thread_is, thread_made, ..   what a lookup of a record found is the record, and it is made
 --     job_looked_up_at, new_job_lem, ..   a name within its table, looked up by the record at its place; and a new name
 -- Assumes nothing.
+use Rattle.std.proofs.Common.{Option, Some, None}
 use Prim.Native.Nat.{ℕ, ◌%◌, ◌<◌}
 use native.Mathlib.Nat.{mod-eq_of_lt}
 use native.Mathlib.Omega.{arith}
@@ -14,20 +15,12 @@ use Rattle.laws.specs.Choice.{if◌then◌otherwise◌}
 use Rattle.job_policy.specs.declared.JobPolicy.{JobPolicy}
 use Rattle.job_policy.specs.Policy.{no_policy}
 use Rattle.record_job.specs.declared.Job.{Job}
-use Rattle.record_job.specs.declared.FoundJob.{FoundJob}
-use Rattle.record_job.specs.declared.FoundJob.TheVariants.{NoJob, OldJob}
 use Rattle.record_job.specs.Job.{no_job, found_job_in}
 use Rattle.record_process.specs.declared.Process.{Process}
-use Rattle.record_process.specs.declared.FoundProcess.{FoundProcess}
-use Rattle.record_process.specs.declared.FoundProcess.TheVariants.{NoProcess, OldProcess}
 use Rattle.record_process.specs.Process.{no_process, found_process_in}
 use Rattle.record_thread.specs.declared.Thread.{Thread}
-use Rattle.record_thread.specs.declared.FoundThread.{FoundThread}
-use Rattle.record_thread.specs.declared.FoundThread.TheVariants.{NoThread, OldThread}
 use Rattle.record_thread.specs.Thread.{no_thread, found_thread_in}
 use Rattle.record_token.specs.declared.SuspendToken.{SuspendToken}
-use Rattle.record_token.specs.declared.FoundToken.{FoundToken}
-use Rattle.record_token.specs.declared.FoundToken.TheVariants.{NoToken, OldToken}
 use Rattle.record_token.specs.SuspendToken.{no_token, found_token_in}
 use Rattle.records.specs.declared.tables.Tables.{Tables}
 use Rattle.records.specs.Tables.{job_at, own_at, inherited_at, process_at, fixed_at, thread_at, token_at}
@@ -67,91 +60,66 @@ token_kept t n h = rw (← h) (ap (with_tokens t) (set-get_or t.tokens n no_toke
 
 -- ---- Looking up --------------------------------------------------------------------------------
 
-pub job_looked_up : {g : FoundJob} (t : Tables) (n : ℕ) {v : Job} →
+pub job_looked_up : {g : Option Job} (t : Tables) (n : ℕ) {v : Job} →
     g ≡ found_job_in v → job_at t n ≡ v → g ≡ found_job t n
 unfolding found_job_in found_job
 job_looked_up t n e p = e ∙ rw (← p)
 
-pub process_looked_up : {g : FoundProcess} (t : Tables) (n : ℕ) {q : Process} →
+pub process_looked_up : {g : Option Process} (t : Tables) (n : ℕ) {q : Process} →
     g ≡ found_process_in q → process_at t n ≡ q → g ≡ found_process t n
 unfolding found_process_in found_process
 process_looked_up t n e p = e ∙ rw (← p)
 
-pub thread_looked_up : {g : FoundThread} (t : Tables) (n : ℕ) {v : Thread} →
+pub thread_looked_up : {g : Option Thread} (t : Tables) (n : ℕ) {v : Thread} →
     g ≡ found_thread_in v → thread_at t n ≡ v → g ≡ found_thread t n
 unfolding found_thread_in found_thread
 thread_looked_up t n e p = e ∙ rw (← p)
 
-pub token_looked_up : {g : FoundToken} (t : Tables) (n : ℕ) {k : SuspendToken} →
+pub token_looked_up : {g : Option SuspendToken} (t : Tables) (n : ℕ) {k : SuspendToken} →
     g ≡ found_token_in k → token_at t n ≡ k → g ≡ found_token t n
 unfolding found_token_in found_token
 token_looked_up t n e p = e ∙ rw (← p)
 
--- a lookup that finds w, of a record r
-found_it : {R F : Type 0} (old : R → F) (none : F) → ((r s : R) → old r ≡ old s → r ≡ s) →
-    ((s : R) → none ≡ old s → ⊥) → (b : Bool) (r s : R) → if b then old r otherwise none ≡ old s → r ≡ s
+-- a lookup that finds s, of a record r: it is r, and its mark is set
+found_it : {R : Type 0} (b : Bool) (r s : R) → if b then Some r otherwise None ≡ Some s → (b ≡ true) × (r ≡ s)
 unfolding if◌then◌otherwise◌
-found_it old none same never true r s e = same r s e
-found_it old none same never false r s e = absurd (never s e)
+found_it true r s e = (refl, cc)
+found_it false r s e = absurd (let z : ◌≡◌ {A = ℕ} 0 1 = cc in omega arith)
 
-pub job_is : {g : FoundJob} {r s : Job} → g ≡ found_job_in r → g ≡ OldJob s → r ≡ s
+pub job_is : {g : Option Job} {r s : Job} → g ≡ found_job_in r → g ≡ Some s → r ≡ s
 unfolding found_job_in
-job_is {r = r} {s} e f =
-    found_it (λ (x : Job). OldJob x) NoJob (λ r s h. cc) (λ s h. let z : ◌≡◌ {A = ℕ} 0 1 = cc in omega arith)
-    r.made r s (sym e ∙ f)
+job_is {r = r} {s} e f = (found_it r.made r s (sym e ∙ f)).1
 
-pub process_is : {g : FoundProcess} {r s : Process} → g ≡ found_process_in r → g ≡ OldProcess s → r ≡ s
+pub process_is : {g : Option Process} {r s : Process} → g ≡ found_process_in r → g ≡ Some s → r ≡ s
 unfolding found_process_in
-process_is {r = r} {s} e f =
-    found_it (λ (x : Process). OldProcess x) NoProcess (λ r s h. cc)
-    (λ s h. let z : ◌≡◌ {A = ℕ} 0 1 = cc in omega arith)
-    r.made r s (sym e ∙ f)
+process_is {r = r} {s} e f = (found_it r.made r s (sym e ∙ f)).1
 
-pub thread_is : {g : FoundThread} {r s : Thread} → g ≡ found_thread_in r → g ≡ OldThread s → r ≡ s
+pub thread_is : {g : Option Thread} {r s : Thread} → g ≡ found_thread_in r → g ≡ Some s → r ≡ s
 unfolding found_thread_in
-thread_is {r = r} {s} e f =
-    found_it (λ (x : Thread). OldThread x) NoThread (λ r s h. cc) (λ s h. let z : ◌≡◌ {A = ℕ} 0 1 = cc in omega arith)
-    r.made r s (sym e ∙ f)
+thread_is {r = r} {s} e f = (found_it r.made r s (sym e ∙ f)).1
 
-pub token_is : {g : FoundToken} {r s : SuspendToken} → g ≡ found_token_in r → g ≡ OldToken s → r ≡ s
+pub token_is : {g : Option SuspendToken} {r s : SuspendToken} → g ≡ found_token_in r → g ≡ Some s → r ≡ s
 unfolding found_token_in
-token_is {r = r} {s} e f =
-    found_it (λ (x : SuspendToken). OldToken x) NoToken (λ r s h. cc)
-    (λ s h. let z : ◌≡◌ {A = ℕ} 0 1 = cc in omega arith)
-    r.held r s (sym e ∙ f)
+token_is {r = r} {s} e f = (found_it r.held r s (sym e ∙ f)).1
 
--- and its mark is set
-marked : {R F : Type 0} (old : R → F) (none : F) → ((s : R) → none ≡ old s → ⊥) → (b : Bool) (r s : R) →
-    if b then old r otherwise none ≡ old s → b ≡ true
-unfolding if◌then◌otherwise◌
-marked old none never true r s e = refl
-marked old none never false r s e = absurd (never s e)
-
-pub job_made : {g : FoundJob} (r : Job) {s : Job} → g ≡ found_job_in r → g ≡ OldJob s → r.made ≡ true
+pub job_made : {g : Option Job} (r : Job) {s : Job} → g ≡ found_job_in r → g ≡ Some s → r.made ≡ true
 unfolding found_job_in
-job_made r {s} e f =
-    marked (λ (x : Job). OldJob x) NoJob (λ s h. let z : ◌≡◌ {A = ℕ} 0 1 = cc in omega arith) r.made r s
-    (sym e ∙ f)
+job_made r {s} e f = (found_it r.made r s (sym e ∙ f)).0
 
-pub process_made : {g : FoundProcess} (r : Process) {s : Process} → g ≡ found_process_in r → g ≡ OldProcess s →
-    r.made ≡ true
+pub process_made : {g : Option Process} (r : Process) {s : Process} → g ≡ found_process_in r → g ≡ Some s → r.made ≡ true
 unfolding found_process_in
-process_made r {s} e f =
-    marked (λ (x : Process). OldProcess x) NoProcess (λ s h. let z : ◌≡◌ {A = ℕ} 0 1 = cc in omega arith) r.made r s
-    (sym e ∙ f)
+process_made r {s} e f = (found_it r.made r s (sym e ∙ f)).0
 
-pub thread_made : {g : FoundThread} (r : Thread) {s : Thread} → g ≡ found_thread_in r → g ≡ OldThread s → r.made ≡ true
+pub thread_made : {g : Option Thread} (r : Thread) {s : Thread} → g ≡ found_thread_in r → g ≡ Some s → r.made ≡ true
 unfolding found_thread_in
-thread_made r {s} e f =
-    marked (λ (x : Thread). OldThread x) NoThread (λ s h. let z : ◌≡◌ {A = ℕ} 0 1 = cc in omega arith) r.made r s
-    (sym e ∙ f)
+thread_made r {s} e f = (found_it r.made r s (sym e ∙ f)).0
 
 -- ---- A name within its table is its own place --------------------------------------------------
 
 pub job_at_lem : (t : Tables) (n : ℕ) {v : Job} → n < 32 → job_at t (n % 32) ≡ v → job_at t n ≡ v
 job_at_lem t n l h = rw (← mod-eq_of_lt l) h
 
-pub job_looked_up_at : {g : FoundJob} (t : Tables) (n : ℕ) {v : Job} →
+pub job_looked_up_at : {g : Option Job} (t : Tables) (n : ℕ) {v : Job} →
     g ≡ found_job_in v → n < 32 → job_at t (n % 32) ≡ v → g ≡ found_job t n
 job_looked_up_at t n e l h = job_looked_up t n e (job_at_lem t n l h)
 
@@ -162,7 +130,7 @@ new_job_lem t n e h m = ap (λ (x : Job). x.made) (job_at_lem t n h e) ∙ m
 pub process_at_lem : (t : Tables) (n : ℕ) {q : Process} → n < 64 → process_at t (n % 64) ≡ q → process_at t n ≡ q
 process_at_lem t n l h = rw (← mod-eq_of_lt l) h
 
-pub process_looked_up_at : {g : FoundProcess} (t : Tables) (n : ℕ) {q : Process} →
+pub process_looked_up_at : {g : Option Process} (t : Tables) (n : ℕ) {q : Process} →
     g ≡ found_process_in q → n < 64 → process_at t (n % 64) ≡ q → g ≡ found_process t n
 process_looked_up_at t n e l h = process_looked_up t n e (process_at_lem t n l h)
 
@@ -173,7 +141,7 @@ new_process_lem t n e h m = ap (λ (x : Process). x.made) (process_at_lem t n h 
 pub thread_at_lem : (t : Tables) (n : ℕ) {v : Thread} → n < 128 → thread_at t (n % 128) ≡ v → thread_at t n ≡ v
 thread_at_lem t n l h = rw (← mod-eq_of_lt l) h
 
-pub thread_looked_up_at : {g : FoundThread} (t : Tables) (n : ℕ) {v : Thread} →
+pub thread_looked_up_at : {g : Option Thread} (t : Tables) (n : ℕ) {v : Thread} →
     g ≡ found_thread_in v → n < 128 → thread_at t (n % 128) ≡ v → g ≡ found_thread t n
 thread_looked_up_at t n e l h = thread_looked_up t n e (thread_at_lem t n l h)
 
@@ -184,7 +152,7 @@ new_thread_lem t n e h m = ap (λ (x : Thread). x.made) (thread_at_lem t n h e) 
 pub token_at_lem : (t : Tables) (n : ℕ) {k : SuspendToken} → n < 64 → token_at t (n % 64) ≡ k → token_at t n ≡ k
 token_at_lem t n l h = rw (← mod-eq_of_lt l) h
 
-pub token_looked_up_at : {g : FoundToken} (t : Tables) (n : ℕ) {k : SuspendToken} →
+pub token_looked_up_at : {g : Option SuspendToken} (t : Tables) (n : ℕ) {k : SuspendToken} →
     g ≡ found_token_in k → n < 64 → token_at t (n % 64) ≡ k → g ≡ found_token t n
 token_looked_up_at t n e l h = token_looked_up t n e (token_at_lem t n l h)
 

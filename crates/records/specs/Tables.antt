@@ -1,5 +1,6 @@
 -- The tables: a list of records for each kind of name. Reading past a table gives an unmade
 -- record, writing past it nothing.
+use Rattle.std.specs.Prelude.{Option, Some, None}
 use Rattle.std.specs.Prelude.{ℕ, ◌≡◌, List, get_or, set, replicate, length}
 use Rattle.laws.specs.Choice.{if◌then◌otherwise◌}
 use Rattle.job_policy.specs.Policy.{no_policy}
@@ -13,14 +14,6 @@ use Rattle.record_thread.specs.declared.Thread.{Thread}
 use Rattle.record_token.specs.SuspendToken.{no_token}
 use Rattle.record_token.specs.declared.SuspendToken.{SuspendToken}
 use Rattle.records.specs.declared.tables.Tables.{Tables}
-use Rattle.record_job.specs.declared.FoundJob.{FoundJob}
-use Rattle.record_job.specs.declared.FoundJob.TheVariants.{NoJob, OldJob}
-use Rattle.record_process.specs.declared.FoundProcess.{FoundProcess}
-use Rattle.record_process.specs.declared.FoundProcess.TheVariants.{NoProcess, OldProcess}
-use Rattle.record_thread.specs.declared.FoundThread.{FoundThread}
-use Rattle.record_thread.specs.declared.FoundThread.TheVariants.{NoThread, OldThread}
-use Rattle.record_token.specs.declared.FoundToken.{FoundToken}
-use Rattle.record_token.specs.declared.FoundToken.TheVariants.{NoToken, OldToken}
 
 -- at the start the root alone is made
 unfoldable pub fresh_tables : Tables
@@ -70,18 +63,18 @@ token_at t k = get_or t.tokens k no_token
 
 -- ---- Looking up a name: a made record, or an absence -----------------------------------------
 
-unfoldable pub found_job : Tables → ℕ → FoundJob
-found_job t j = if (job_at t j).made then OldJob (job_at t j) otherwise NoJob
+unfoldable pub found_job : Tables → ℕ → Option Job
+found_job t j = if (job_at t j).made then Some (job_at t j) otherwise None
 
-unfoldable pub found_process : Tables → ℕ → FoundProcess
-found_process t p = if (process_at t p).made then OldProcess (process_at t p) otherwise NoProcess
+unfoldable pub found_process : Tables → ℕ → Option Process
+found_process t p = if (process_at t p).made then Some (process_at t p) otherwise None
 
-unfoldable pub found_thread : Tables → ℕ → FoundThread
-found_thread t n = if (thread_at t n).made then OldThread (thread_at t n) otherwise NoThread
+unfoldable pub found_thread : Tables → ℕ → Option Thread
+found_thread t n = if (thread_at t n).made then Some (thread_at t n) otherwise None
 
 -- a dropped token is not found
-unfoldable pub found_token : Tables → ℕ → FoundToken
-found_token t k = if (token_at t k).held then OldToken (token_at t k) otherwise NoToken
+unfoldable pub found_token : Tables → ℕ → Option SuspendToken
+found_token t k = if (token_at t k).held then Some (token_at t k) otherwise None
 
 -- ---- Writing -------------------------------------------------------------------------------
 

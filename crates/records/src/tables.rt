@@ -1,5 +1,5 @@
 // tables.rt: the records of all names. Policies stand beside jobs and processes, since no lookup can hold an array.
-ghost use Rattle.std.specs.Prelude.{◌≡◌};
+ghost use Rattle.std.specs.Prelude.{◌≡◌, set};
 ghost use Rattle.records.specs.Tables.{put_job, put_own, put_inherited, put_process};
 ghost use Rattle.records.specs.Tables.{put_fixed, put_thread, put_token, fresh_tables};
 
@@ -9,7 +9,7 @@ use record_process::Process;
 use record_thread::Thread;
 use record_token::SuspendToken;
 
-#[derive(Clone, Copy)]
+#[derive(Clone, Copy, PartialEq, Eq)]
 pub struct Tables {
     pub jobs: [Job; 32],
     // What a job's own policy lists set, and what it inherited when it was made.
@@ -25,6 +25,7 @@ pub struct Tables {
 // -- The start -----------------------------------------------------------------------------
 
 // The root alone is made.
+#[tactic(auto, unfolding(crate::specs::Tables::fresh_tables))]
 pub fn fresh_tables() -> Tables
     ensures { result ≡ fresh_tables }
 {
@@ -32,7 +33,7 @@ pub fn fresh_tables() -> Tables
     jobs[0] = Job::root();
     let policies = [JobPolicy::none(); 32];
     Tables {
-        jobs: jobs,
+        jobs,
         own: policies,
         inherited: policies,
         processes: [Process::none(); 64],
@@ -44,74 +45,70 @@ pub fn fresh_tables() -> Tables
 
 // -- Storing -------------------------------------------------------------------------------
 
+// Stores under a name, in any table; past the table it does nothing.
+fn store<T: Copy, const N: usize>(table: &mut [T; N], name: u8, v: T)
+    ensures { table.new ≡ set table.old name v }
+{
+    let i = name as usize;
+    if i < N {
+        table[i] = v;
+    }
+}
+
 impl Tables {
+    #[tactic(auto, unfolding(crate::specs::Tables::put_job))]
     pub fn with_job(mut self, name: u8, v: Job) -> Tables
         ensures { result ≡ put_job self name v }
     {
-        let i = name as usize;
-        if i < 32 {
-            self.jobs[i] = v;
-        }
+        store(&mut self.jobs, name, v);
         self
     }
 
+    #[tactic(auto, unfolding(crate::specs::Tables::put_own))]
     pub fn with_own(mut self, name: u8, v: JobPolicy) -> Tables
         ensures { result ≡ put_own self name v }
     {
-        let i = name as usize;
-        if i < 32 {
-            self.own[i] = v;
-        }
+        store(&mut self.own, name, v);
         self
     }
 
+    #[tactic(auto, unfolding(crate::specs::Tables::put_inherited))]
     pub fn with_inherited(mut self, name: u8, v: JobPolicy) -> Tables
         ensures { result ≡ put_inherited self name v }
     {
-        let i = name as usize;
-        if i < 32 {
-            self.inherited[i] = v;
-        }
+        store(&mut self.inherited, name, v);
         self
     }
 
+    #[tactic(auto, unfolding(crate::specs::Tables::put_process))]
     pub fn with_process(mut self, name: u8, v: Process) -> Tables
         ensures { result ≡ put_process self name v }
     {
-        let i = name as usize;
-        if i < 64 {
-            self.processes[i] = v;
-        }
+        store(&mut self.processes, name, v);
         self
     }
 
+    #[tactic(auto, unfolding(crate::specs::Tables::put_fixed))]
     pub fn with_fixed(mut self, name: u8, v: JobPolicy) -> Tables
         ensures { result ≡ put_fixed self name v }
     {
-        let i = name as usize;
-        if i < 64 {
-            self.fixed[i] = v;
-        }
+        store(&mut self.fixed, name, v);
         self
     }
 
+    #[tactic(auto, unfolding(crate::specs::Tables::put_thread))]
     pub fn with_thread(mut self, name: u8, v: Thread) -> Tables
         ensures { result ≡ put_thread self name v }
     {
-        let i = name as usize;
-        if i < 128 {
-            self.threads[i] = v;
-        }
+        store(&mut self.threads, name, v);
         self
     }
 
+    #[tactic(auto, unfolding(crate::specs::Tables::put_token))]
     pub fn with_token(mut self, name: u8, v: SuspendToken) -> Tables
         ensures { result ≡ put_token self name v }
     {
-        let i = name as usize;
-        if i < 64 {
-            self.tokens[i] = v;
-        }
+        store(&mut self.tokens, name, v);
         self
     }
 }

@@ -1,27 +1,14 @@
 // slices: 0f by a lent list, of more entries than a command or the form by value has. Writes for each list its length,
 // the answer, the job's information with its own policy, and whether the form by value says the same.
-ghost use Rattle.std.specs.Prelude.{◌≤◌, ◌≡◌, take};
-ghost use Rattle.model.specs.JobCalls.{set_policy_basic};
-
+use crate::pair;
 use job_policy::BasicPolicy;
+use policy_calls::set_policy_basic;
 use records::reading::{job_at, own_at};
 use records::tables::{Tables, fresh_tables};
 use reply::{Fields, Reply};
 use std::io;
 
 // -- The lists -----------------------------------------------------------------------------
-
-// The first n entries, lent.
-fn lent(t: Tables, job: u8, option: u8, n: usize, policies: [BasicPolicy; 20]) -> Reply
-    requires { n ≤ 20 }
-    ensures { result ≡ set_policy_basic t job option (take n policies) }
-{
-    policy_calls::set_policy_basic(t, job, option, &policies[..n])
-}
-
-fn pair(condition: u8, action: u8) -> BasicPolicy {
-    BasicPolicy { condition, action }
-}
 
 // The conditions go round from `first`, the actions from 0, and one further where the conditions begin again.
 fn entry(first: u8, k: u8) -> BasicPolicy {
@@ -30,64 +17,35 @@ fn entry(first: u8, k: u8) -> BasicPolicy {
 
 // Twenty entries: the last five set conditions anew, and to other actions.
 fn twenty(first: u8) -> [BasicPolicy; 20] {
-    let none = pair(0, 0);
-    let mut list = [none; 20];
+    let mut list = [pair(0, 0); 20];
     for k in 0..20u8 {
-        let e = entry(first, k);
-        let i = k as usize;
-        list[i] = e;
+        list[k as usize] = entry(first, k);
     }
     list
-}
-
-// The entries that the form by value takes.
-fn fifteen(list: [BasicPolicy; 20]) -> [BasicPolicy; 15] {
-    let none = pair(0, 0);
-    let mut front = [none; 15];
-    for i in 0..15usize {
-        let e = list[i];
-        front[i] = e;
-    }
-    front
 }
 
 // -- A line --------------------------------------------------------------------------------
 
 // The job's information, with its own policy in place of the merged one.
-fn put(
-    rt: &impl Print,
-    number: usize,
-    job: u8,
-    answer: i64,
-    t: Tables,
-    end: &[u8],
-) -> io::Result<()> {
-    let v = job_at(t, job);
-    let slack = v.slack;
+fn put(rt: &impl Print, number: u8, job: u8, reply: &Reply, end: &str) -> io::Result<()> {
+    let v = job_at(reply.tables, job);
     let fields = Fields::JobFields {
         killed: v.killed,
         terminated: v.terminated,
-        amount: slack.amount,
-        mode: slack.mode,
+        amount: v.slack.amount,
+        mode: v.slack.mode,
     };
+    let own = own_at(reply.tables, job);
     let mut out = [0u8; 4096];
-    let n = lines::put_line(&mut out, 0, number as u64, answer, fields, own_at(t, job));
-    if n == 0 {
-        return Ok(());
-    }
-    let m = n - 1;
-    rt.write_all(&out[..m])?;
-    rt.write_all(end)
+    let n = lines::put_line(&mut out, 0, u64::from(number), reply.answer, fields, own);
+    // The line's own end is left out.
+    rt.write_all(&out[..n.saturating_sub(1)])?;
+    println!(rt; "{end}")
 }
 
 // Whether two replies have one answer and leave the job one policy.
-fn agree(a: Reply, b: Reply, job: u8) -> bool {
-    if a.answer != b.answer {
-        return false;
-    }
-    let own = own_at(a.tables, job).action;
-    let other = own_at(b.tables, job).action;
-    own == other
+fn agree(a: &Reply, b: &Reply, job: u8) -> bool {
+    a.answer == b.answer && own_at(a.tables, job).action == own_at(b.tables, job).action
 }
 
 // The first n entries by both forms; past fifteen there is one.
@@ -96,22 +54,21 @@ fn case(
     t: Tables,
     job: u8,
     option: u8,
-    n: usize,
-    list: [BasicPolicy; 20],
-) -> io::Result<()>
-    requires { n ≤ 20 }
-{
-    let r = lent(t, job, option, n, list);
-    let after = r.tables;
-    if n > 15 {
-        return put(rt, n, job, r.answer, after, b"\n");
-    }
-    let by_value = job_calls::set_policy(t, job, option, n as u8, fifteen(list));
-    if agree(r, by_value, job) {
-        put(rt, n, job, r.answer, after, b" agree\n")
+    n: u8,
+    list: &[BasicPolicy; 20],
+) -> io::Result<()> {
+    let lent = &list[..usize::from(n).min(20)];
+    let reply = set_policy_basic(t, job, option, lent);
+    let Some(fifteen) = list.first_chunk::<15>().filter(|_| n <= 15) else {
+        return put(rt, n, job, &reply, "");
+    };
+    let by_value = job_calls::set_policy(t, job, option, n, *fifteen);
+    let end = if agree(&reply, &by_value, job) {
+        " agree"
     } else {
-        put(rt, n, job, r.answer, after, b" differ\n")
-    }
+        " differ"
+    };
+    put(rt, n, job, &reply, end)
 }
 
 // -- The cases -----------------------------------------------------------------------------
@@ -119,61 +76,52 @@ fn case(
 // Nothing is inherited: each list is set whole, whatever its length.
 fn accepted(rt: &impl Print, t: Tables) -> io::Result<()> {
     let list = twenty(0);
-    case(rt, t, 0, 0, 0, list)?;
-    case(rt, t, 0, 0, 4, list)?;
-    case(rt, t, 0, 0, 5, list)?;
-    case(rt, t, 0, 0, 9, list)?;
-    case(rt, t, 0, 0, 15, list)?;
-    case(rt, t, 0, 0, 16, list)?;
-    case(rt, t, 0, 0, 20, list)?;
-    case(rt, t, 0, 1, 20, list)
+    for n in [0, 4, 5, 9, 15, 16, 20] {
+        case(rt, t, 0, 0, n, &list)?;
+    }
+    case(rt, t, 0, 1, 20, &list)
 }
 
 // Job 2 inherits conditions 4 and 6. Absolute ends at the first of them, and what stands before it stays set; Relative
 // passes over them. From condition 7 on, 4 is the thirteenth entry.
 fn inherited(rt: &impl Print, t: Tables) -> io::Result<()> {
     let list = twenty(0);
-    case(rt, t, 2, 0, 4, list)?;
-    case(rt, t, 2, 0, 5, list)?;
-    case(rt, t, 2, 0, 20, list)?;
-    case(rt, t, 2, 1, 5, list)?;
-    case(rt, t, 2, 1, 9, list)?;
-    case(rt, t, 2, 1, 20, list)?;
+    for (option, n) in [(0, 4), (0, 5), (0, 20), (1, 5), (1, 9), (1, 20)] {
+        case(rt, t, 2, option, n, &list)?;
+    }
     let later = twenty(7);
-    case(rt, t, 2, 0, 12, later)?;
-    case(rt, t, 2, 0, 13, later)?;
-    case(rt, t, 2, 0, 20, later)?;
-    case(rt, t, 2, 1, 15, later)?;
-    case(rt, t, 2, 1, 16, later)
+    for (option, n) in [(0, 12), (0, 13), (0, 20), (1, 15), (1, 16)] {
+        case(rt, t, 2, option, n, &later)?;
+    }
+    Ok(())
 }
 
 // A field outside its list in the last entry: nothing changes, not even what the job had.
 fn bad_fields(rt: &impl Print, t: Tables) -> io::Result<()> {
     let mut list = twenty(0);
     list[4] = pair(15, 1);
-    case(rt, t, 2, 0, 4, list)?;
-    case(rt, t, 2, 0, 5, list)?;
+    case(rt, t, 2, 0, 4, &list)?;
+    case(rt, t, 2, 0, 5, &list)?;
     list = twenty(0);
     list[15] = pair(0, 5);
-    case(rt, t, 2, 1, 15, list)?;
-    case(rt, t, 2, 1, 16, list)?;
+    case(rt, t, 2, 1, 15, &list)?;
+    case(rt, t, 2, 1, 16, &list)?;
     list = twenty(0);
     list[19] = pair(15, 5);
-    case(rt, t, 2, 1, 19, list)?;
-    case(rt, t, 2, 1, 20, list)
+    case(rt, t, 2, 1, 19, &list)?;
+    case(rt, t, 2, 1, 20, &list)
 }
 
 // An option that is none, a job past the table, an unmade one, and one that has a child.
 fn refused(rt: &impl Print, t: Tables) -> io::Result<()> {
     let list = twenty(0);
-    case(rt, t, 32, 2, 9, list)?;
-    case(rt, t, 32, 0, 9, list)?;
-    case(rt, t, 9, 0, 9, list)?;
-    case(rt, t, 1, 0, 9, list)?;
-    case(rt, t, 1, 2, 20, list)?;
-    case(rt, t, 32, 0, 20, list)?;
-    case(rt, t, 9, 0, 20, list)?;
-    case(rt, t, 1, 1, 20, list)
+    for (job, option) in [(32, 2), (32, 0), (9, 0), (1, 0)] {
+        case(rt, t, job, option, 9, &list)?;
+    }
+    for (job, option) in [(1, 2), (32, 0), (9, 0), (1, 1)] {
+        case(rt, t, job, option, 20, &list)?;
+    }
+    Ok(())
 }
 
 // The root has Deny for condition 4 and Kill for 6, job 1 is its child, and job 2 is job 1's.
@@ -183,11 +131,11 @@ pub fn all(rt: &impl Print) -> io::Result<()> {
     let mut list = twenty(0);
     list[0] = pair(4, 1);
     list[1] = pair(6, 4);
-    let mut jobs = lent(t, 0, 0, 2, list).tables;
+    let mut jobs = set_policy_basic(t, 0, 0, &list[..2]).tables;
     jobs = job_calls::create_child(jobs, 0, 1).tables;
     jobs = job_calls::create_child(jobs, 1, 2).tables;
     inherited(rt, jobs)?;
     list[0] = pair(14, 3);
-    bad_fields(rt, lent(jobs, 2, 0, 1, list).tables)?;
+    bad_fields(rt, set_policy_basic(jobs, 2, 0, &list[..1]).tables)?;
     refused(rt, jobs)
 }

@@ -1,57 +1,38 @@
--- Laws of `common` and `begins`: a loop over the common front, and that all of a list is common where the other begins
--- with it. Assumes nothing.
-use Prim.Native.Nat.{ℕ, suc, ◌+◌, ◌-◌, ◌<◌, ◌≤◌}
+-- Laws of `common` and `begins`: that all of a list is common where the other begins with it. Then that what is written
+-- part by part is written as a whole. Assumes nothing.
+use Prim.Native.Nat.{ℕ, suc, ◌+◌, ◌-◌, ◌^◌, ◌<◌, ◌≤◌, min}
 use mathlib.Core.Path.{◌≡◌, refl, sym, ◌∙◌, ap}
-use mathlib.Core.Bool.{Bool, true, false}
+use mathlib.Core.Bool.{Bool, true, false, cond}
 use mathlib.Core.List.{List, [], ◌∷◌, ◌++◌}
-use native.Mathlib.Numerals.{add-one}
 use native.Mathlib.Omega.{arith}
-use mathlib.Core.Logic.{◌⊎◌, inl, inr, ⊎_elim}
-use borrow.Author.Tests.{leb-true, leb-false}
-use native.Mathlib.Nat.{le_of_eq}
-use lib.Dec.{leb, eqb-zero-suc, eqb-suc-suc}
-use lib.ListN.{length, get_or, take, drop, length-drop, drop_of_length-le}
-use lib.Seq.{drop-cons, take_all}
+use borrow.Author.Tests.{eq-eqb, ne_eqb, lt-ltb, le-ltb}
+use lib.Dec.{eqb-zero-suc, eqb-suc-suc}
+use lib.ListN.{length}
+use Rattle.std.specs.Result.{IsErrAnd}
+use Rattle.std.specs.List.{zip, prefix_len}
+use Rattle.std.proofs.Common.{Result, Ok, Err}
 use Rattle.laws.specs.Choice.{◌<?◌, ◌=?◌, ◌and◌, if◌then◌otherwise◌, ite}
-use Rattle.replay.specs.declared.pack.Lines.{Lines}
-use Rattle.replay.specs.Agree.{common, begins, is_stop, capped, smaller, judged}
-use Rattle.replay.specs.Agree.{cut_off, over, passed, Event, compared, calls_end, after}
-use Rattle.replay.specs.Agree.{Follows, Finishes, Replays, Compares}
+use Rattle.replay.specs.declared.recorded.Lines.{Lines}
+use Rattle.replay.specs.declared.recorded.Fault.{Fault}
+use Rattle.replay.specs.declared.recorded.Fault.TheVariants.{Differs, Cut}
+use Rattle.replay.specs.Agree.{common, begins, is_stop, agreed, left, judged}
+use Rattle.replay.specs.Agree.{over, and_then, after, Replays}
 
-either : (t : Bool) → (t ≡ true) ⊎ (t ≡ false)
-either true = inl refl
-either false = inr refl
+-- the two bytes are the same
+abbrev pub alike : ℕ × ℕ → Bool
+alike p = p.0 =? p.1
 
--- the first i bytes are common, and so are as many as are common behind them
-abbrev pub Alike : List ℕ → List ℕ → ℕ → Type 0
-Alike a b i = common a b ≡ i + common (drop i a) (drop i b)
+by_first : (t : Bool) (n k : ℕ) → n ≡ k → cond t (1 + n) 0 ≡ ite t (λ _. suc k) (λ _. 0)
+unfolding ite
+by_first true n k e = omega (arith, e)
+by_first false n k e = refl
 
-module _ (a b : List ℕ) (i : ℕ) (inv : Alike a b i) where
-  pub differs : i < length a → i < length b → (get_or a i 0 =? get_or b i 0) ≡ false → i ≡ common a b
-  unfolding common ite
-  differs h k e = sym (inv ∙ rw (drop-cons a i 0 h, drop-cons b i 0 k, e) (omega arith))
-
-  pub goes_on_lem : i < length a → i < length b → (get_or a i 0 =? get_or b i 0) ≡ true → Alike a b (i + 1)
-  unfolding common ite
-  goes_on_lem h k e = inv ∙ rw (drop-cons a i 0 h, drop-cons b i 0 k, e, add-one) (omega arith)
-
-none : (a : List ℕ) → common a [] ≡ 0
+-- the pairs at the front that are alike are those that both lists have
+pub zipped : (a b : List ℕ) → prefix_len alike (zip a b) ≡ common a b
 unfolding common
-none [] = refl
-none (x ∷ a) = refl
-
--- one of the lists is over
-pub ends : (a b : List ℕ) (i : ℕ) → Alike a b i → length a - (length a - length b) ≤ i → i ≡ common a b
-unfolding common
-ends a b i inv h =
-    ⊎_elim
-    (λ (k : leb (length a) (length b) ≡ true).
-    let e : length a ≤ i = omega (arith, leb-true (length a) (length b) k) in
-    sym (inv ∙ rw (drop_of_length-le a e) (omega arith)))
-    (λ (k : leb (length a) (length b) ≡ false).
-    let e : length b ≤ i = omega (arith, leb-false (length a) (length b) k) in
-    sym (inv ∙ rw (drop_of_length-le b e, none (drop i a)) (omega arith)))
-    (either (leb (length a) (length b)))
+zipped [] b = refl
+zipped (x ∷ a) [] = refl
+zipped (x ∷ a) (y ∷ b) = by_first (x =? y) (prefix_len alike (zip a b)) (common a b) (zipped a b)
 
 -- all of a is common exactly where b begins with a
 by_test : (t s : Bool) (n k : ℕ) → (n =? k) ≡ s → (ite t (λ _. suc n) (λ _. 0) =? suc k) ≡ t and s
@@ -65,84 +46,103 @@ all_common [] b = refl
 all_common (x ∷ a) [] = eqb-zero-suc (length a)
 all_common (x ∷ a) (y ∷ b) = by_test (x =? y) (begins a b) (common a b) (length a) (all_common a b)
 
--- the last five bytes begin with a stop where all five are common
-pub stop_at_lem : (l : List ℕ) (from k : ℕ) → from ≡ length l - 5 →
-    k ≡ common (115 ∷ 116 ∷ 111 ∷ 112 ∷ 10 ∷ []) (take (length l - from) (drop from l)) → (k =? 5) ≡ is_stop l
-unfolding is_stop
-stop_at_lem l from k f h =
-    let s : List ℕ = 115 ∷ 116 ∷ 111 ∷ 112 ∷ 10 ∷ [] in
-    ap (λ (n : ℕ). n =? 5) h ∙ all_common s _
-    ∙ ap (begins s) (take_all _ (drop from l) (le_of_eq (length-drop from l)) ∙ ap (λ (n : ℕ). drop n l) f)
+-- ---- A whole list --------------------------------------------------------------------------
+
+-- l came to m by some parts
+pub record Follows (l m : Lines) : Type 0 where
+  pub parts : List (List ℕ)
+  pub are : after l parts ≡ Ok m
+
+one : (r : Result Lines Fault) → and_then r (λ m. Ok m) ≡ r
+unfolding and_then
+one (Ok m) = refl
+one (Err e) = refl
+
+one_more : (r : Result Lines Fault) (ps : List (List ℕ)) (w : List ℕ) →
+    ((m : Lines) → after m (ps ++ w ∷ []) ≡ and_then (after m ps) (λ k. judged k w)) →
+    and_then r (λ m. after m (ps ++ w ∷ [])) ≡ and_then (and_then r (λ m. after m ps)) (λ k. judged k w)
+unfolding and_then
+one_more (Ok m) ps w h = h m
+one_more (Err e) ps w h = refl
+
+after_more : (l : Lines) (ps : List (List ℕ)) (w : List ℕ) →
+    after l (ps ++ w ∷ []) ≡ and_then (after l ps) (λ k. judged k w)
+unfolding after and_then
+after_more l [] w = one (judged l w)
+after_more l (p ∷ ps) w = one_more (judged l p) ps w (λ m. after_more m ps w)
+
+pub stays : (l : Lines) → Follows l l
+unfolding after
+stays l = record { parts = []; are = refl }
+
+along : {l m : Lines} {r : Result Lines Fault} (w : List ℕ) (f : Follows l m) → r ≡ judged m w →
+    after l (f.parts ++ w ∷ []) ≡ r
+unfolding and_then
+along {l = l} w f e = after_more l f.parts w ∙ ap (λ (r : Result Lines Fault). and_then r (λ k. judged k w)) f.are ∙ sym e
+
+pub goes_on_lem : {l m n : Lines} (w : List ℕ) → Follows l m → Ok n ≡ judged m w → Follows l n
+goes_on_lem w f e = record { parts = f.parts ++ w ∷ []; are = along w f e }
+
+-- what `?` hands on
+handed_on : (r : Result ℕ Fault) (e : Fault) → IsErrAnd r (λ d. d ≡ e) → r ≡ Err e
+handed_on (Ok n) e h = absurd h
+handed_on (Err d) e h = ap Err h
+
+pub faults : {l m : Lines} {e : Fault} {r : Result ℕ Fault} (w : List ℕ) → Follows l m → Err e ≡ judged m w →
+    IsErrAnd r (λ d. d ≡ e) → Replays l r
+unfolding and_then
+faults {e = d} {r = r} w f e h = record {
+  parts = f.parts ++ w ∷ [];
+  holds = true;
+  are = handed_on r d h ∙ sym (ap (λ (r : Result Lines Fault). and_then r (λ k. over k true)) (along w f e));
+}
+
+pub finishes : {l m : Lines} {r : Result ℕ Fault} (holds : Bool) → Follows l m → r ≡ over m holds → Replays l r
+unfolding and_then
+finishes holds f e = record {
+  parts = f.parts;
+  holds = holds;
+  are = e ∙ sym (ap (λ (r : Result Lines Fault). and_then r (λ k. over k holds)) f.are);
+}
 
 -- ---- How a list stands ---------------------------------------------------------------------
 
-pub nothing_written : (l : Lines) (w r : List ℕ) → length w ≡ 0 → l ≡ judged l w r
+pub nothing_written : (l : Lines) (w : List ℕ) → length w ≡ 0 → Ok l ≡ judged l w
 unfolding judged
-nothing_written l [] r e = refl
-nothing_written l (x ∷ w) r e = absurd (omega arith)
+nothing_written l [] e = refl
+nothing_written l (x ∷ w) e = absurd (omega arith)
 
 -- the fields as the code computes them
-pub some_written : (l : Lines) (w r : List ℕ) → (length w ≡ 0 → ⊥) → judged l w r ≡ record {
-  file = l.file;
-  at = capped l.at (common w r);
-  end = l.end;
-  same = l.same and (common w r =? length w);
-  cut = length r <? smaller (length w) (l.end - l.at);
-  stop = is_stop w;
-}
+pub some_written : (l : Lines) (w : List ℕ) → (length w ≡ 0 → ⊥) → judged l w ≡
+    (if common w (left l) =? length w
+    then Ok (record { recorded = l.recorded; end = l.end; at = agreed l w; stop = is_stop w })
+    otherwise
+    (if length (left l) <? min (length w) (l.end - l.at)
+    then Err (Cut (agreed l w))
+    otherwise Err (Differs (agreed l w))))
 unfolding judged
-some_written l [] r h = absurd (h refl)
-some_written l (x ∷ w) r h = rw (all_common (x ∷ w) r)
+some_written l [] h = absurd (h refl)
+some_written l (x ∷ w) h = rw (all_common (x ∷ w) (left l))
 
--- ---- A whole list --------------------------------------------------------------------------
+-- what is there, how much of w agrees, and the place behind it, as the code computes them
+module _ (l : Lines) (w rest : List ℕ) (a at : ℕ) (some : length w ≡ 0 → ⊥) (there : rest ≡ left l)
+    (agrees : a ≡ common w rest) (place : at ≡ min (l.at + a) (2 ^ 64 - 1)) where
+  pub all_written : (stop : Bool) → stop ≡ is_stop w → a ≡ length w →
+      Ok (record { recorded = l.recorded; end = l.end; at = at; stop = stop }) ≡ judged l w
+  unfolding if◌then◌otherwise◌
+  all_written stop s k = sym (some_written l w some ∙ rw (← there, ← agrees, ← place, ← s, eq-eqb a (length w) k))
 
-after_both : (l : Lines) (a b : List Event) → after (after l a) b ≡ after l (a ++ b)
-unfolding after
-after_both l [] b = refl
-after_both l (compared w r ∷ a) b = after_both (judged l w r) a b
-after_both l (calls_end ∷ a) b = after_both (cut_off l) a b
+  module _ (room most : ℕ) (left_over : room ≡ l.end - l.at) (smaller : most ≡ min (length w) room) where
+    pub cut_short : (a ≡ length w → ⊥) → length rest < most → Err (Cut at) ≡ judged l w
+    unfolding if◌then◌otherwise◌
+    cut_short k h =
+        let t : length rest < min (length w) (l.end - l.at) = omega arith in sym
+        (some_written l w some
+        ∙ rw (← there, ← agrees, ← place, ne_eqb a (length w) k, lt-ltb (length rest) (min (length w) (l.end - l.at)) t))
 
-pub stays : {l r : Lines} → r ≡ l → Follows l r
-unfolding after
-stays e = record { events = []; are = e }
-
-pub and_then : {l m r : Lines} → Follows l m → Follows m r → Follows l r
-and_then f g = record {
-  events = f.events ++ g.events;
-  are = g.are ∙ ap (λ (k : Lines). after k g.events) f.are ∙ after_both _ f.events g.events;
-}
-
-pub compares : {l r : Lines} {w want : List ℕ} → Compares l w want r → Follows l r
-unfolding after
-compares {w = w} {want = want} c = record { events = compared w (take c.got want) ∷ []; are = c.judges }
-
-pub cuts : {l r : Lines} → r ≡ cut_off l → Follows l r
-unfolding after
-cuts e = record { events = calls_end ∷ []; are = e }
-
-pub finishes : {l m r : Lines} (holds : Bool) → Follows l m → r ≡ over m holds → Finishes l r
-finishes holds f e = record {
-  events = f.events;
-  holds = holds;
-  are = e ∙ ap (λ (k : Lines). over k holds) f.are;
-}
-
--- where something differed, the end of the list changes nothing
-pub over_none : (l : Lines) (holds : Bool) → l.same ≡ false → l ≡ over l holds
-unfolding ◌and◌
-over_none l holds e = rw e
-
-pub differed : (l : Lines) → l.same ≡ false → Replays l l
-unfolding after passed if◌then◌otherwise◌ ◌and◌
-differed l e = record { events = []; holds = false; there = true; are = rw e }
-
-pub replays : {l m r s : Lines} → Follows l m → Finishes m r → (there : Bool) × (s ≡ passed r there) → Replays l s
-replays f g h =
-    let e = g.are ∙ ap (λ (k : Lines). over (after k g.events) g.holds) f.are
-    ∙ ap (λ (k : Lines). over k g.holds) (after_both _ f.events g.events) in
-    record {
-      events = f.events ++ g.events;
-      holds = g.holds;
-      there = h.0;
-      are = h.1 ∙ ap (λ (k : Lines). passed k h.0) e;
-    }
+    pub differs : (a ≡ length w → ⊥) → most ≤ length rest → Err (Differs at) ≡ judged l w
+    unfolding if◌then◌otherwise◌
+    differs k h =
+        let t : min (length w) (l.end - l.at) ≤ length rest = omega arith in sym
+        (some_written l w some
+        ∙ rw (← there, ← agrees, ← place, ne_eqb a (length w) k, le-ltb (length rest) (min (length w) (l.end - l.at)) t))

@@ -2,123 +2,90 @@
 // pack, up to its first list that differs.
 #![tactic(auto)]
 
+ghost use Rattle.std.specs.Prelude.{◌<◌, length, IfOk};
+
 mod list;
 mod pack;
+mod recorded;
 
-use pack::{Length, Lines};
+use recorded::Fault;
 use std::fs::File;
 use std::io;
+use std::io::Read;
 use std::rt::Files;
 
-// How far a pack came: its lists, the bytes of lines that agreed in all, and those of the last list.
-#[derive(Drop)]
+// The lists of a pack that agree, and the bytes of their lines.
+#[derive(Clone, Copy)]
 struct Total {
     lists: usize,
     bytes: usize,
-    last: usize,
-    same: bool,
-    cut: bool,
-    going: bool,
 }
 
-impl Total {
-    // One list more.
-    fn with(self, lines: Lines<'_>) -> Total {
-        Total {
-            lists: pack::add(self.lists, 1),
-            bytes: pack::add(self.bytes, lines.at),
-            last: lines.at,
-            same: lines.same,
-            cut: lines.cut,
-            going: lines.same,
-        }
-    }
-
-    // The end of the pack.
-    fn ended(self) -> Total {
-        Total {
-            lists: self.lists,
-            bytes: self.bytes,
-            last: self.last,
-            same: self.same,
-            cut: self.cut,
-            going: false,
-        }
-    }
+// The list that does not agree, counted from 1.
+#[derive(Clone, Copy)]
+struct Failed {
+    list: usize,
+    fault: Fault,
 }
 
-// Replays the list that comes next, if one does.
-fn next(
-    calls: &File,
-    lines: &File,
-    total: Total,
-    buf: &mut [u8],
-    out: &mut [u8],
-    want: &mut [u8],
-) -> Total {
-    let mut bytes = [0u8; 4];
-    match pack::next_length(calls, &mut bytes) {
-        Length::End => total.ended(),
-        Length::Cut => total.with(pack::cut(pack::lines_from(calls, 0))),
-        Length::Of(n) => {
-            let recorded = pack::lines_behind(lines, n, want);
-            total.with(list::replay(calls, n, recorded, buf, out, want))
-        }
-    }
+// Replays the list at the front, and answers the bytes of its lines and the lists behind it.
+fn replay_next(pack: &[u8]) -> Result<(usize, &[u8]), Fault>
+    ensures { IfOk result (λ p. length p.1.now < length pack.now) }
+{
+    let (entry, rest) = pack::entry_at(pack).ok_or(Fault::Cut(0))?;
+    let bytes = list::replay(entry.calls, entry.lines)?;
+    Ok((bytes, rest))
 }
 
-// Replays all lists. A proved loop has to end, and nothing says that a file does: no run takes so many turns.
-fn all(calls: &File, lines: &File, buf: &mut [u8], out: &mut [u8], want: &mut [u8]) -> Total {
-    let mut total = Total {
-        lists: 0,
-        bytes: 0,
-        last: 0,
-        same: true,
-        cut: false,
-        going: true,
-    };
-    for _ in 0..u64::MAX {
-        if !total.going {
-            return total;
-        }
-        total = next(calls, lines, total, buf, out, want);
+// Replays all lists.
+fn replay_all(pack: &[u8]) -> Result<Total, Failed> {
+    let mut total = Total { lists: 0, bytes: 0 };
+    let mut left = pack;
+    while !left.is_empty() {
+        let list = total.lists.saturating_add(1);
+        let (bytes, rest) = replay_next(left).map_err(|fault| Failed { list, fault })?;
+        total = Total {
+            lists: list,
+            bytes: total.bytes.saturating_add(bytes),
+        };
+        left = rest;
     }
-    total
+    Ok(total)
 }
 
-// The line of a pack. Lists are numbered from 1.
-fn report(rt: &impl Print, name: &str, total: Total) -> io::Result<()> {
-    let lists = total.lists;
-    if total.same {
-        let bytes = total.bytes;
-        return println!(rt; "{name} agrees. Lists: {lists}, bytes of lines: {bytes}");
-    }
-    let how = if total.cut { "is cut" } else { "differs" };
-    let last = total.last;
-    println!(rt; "{name}: list {lists} {how} after {last} bytes of its lines")
-}
-
-// Replays a pack. One file reads the calls, the other the lines.
-fn replay_pack(rt: &(impl Files<File = File> + Print), name: &str) -> io::Result<()> {
-    let (Ok(calls), Ok(lines)) = (File::open(rt, name), File::open(rt, name)) else {
+// Replays a pack, and writes its line. A file that can't be read on ends there.
+fn replay_pack(rt: &(impl Files<File = File> + Print + AllocGlobal), name: &str) -> io::Result<()> {
+    let Ok(mut file) = File::open(rt, name) else {
         return println!(rt; "{name}: missing");
     };
-    let mut buf = [0u8; 65536];
-    let mut out = [0u8; 4096];
-    let mut want = [0u8; 65536];
-    let total = all(&calls, &lines, &mut buf, &mut out, &mut want);
-    report(rt, name, total)
+    let mut pack = Vec::new(rt.alloc());
+    let _ = file.read_to_end(&mut pack);
+    match replay_all(&pack) {
+        Ok(Total { lists, bytes }) => {
+            println!(rt; "{name} agrees. Lists: {lists}, bytes of lines: {bytes}")
+        }
+        Err(Failed { list, fault }) => {
+            println!(rt; "{name}: list {list} {fault} bytes of its lines")
+        }
+    }
 }
 
 // The packs that have to agree, and four that must not, so that a replay that finds nothing shows. The second list of
 // each has a byte of its lines changed, lacks its last line, has a line too many, or is cut.
+const PACKS: [&str; 8] = [
+    "named.pack",
+    "counts.pack",
+    "random.pack",
+    "manual.pack",
+    "wrong.pack",
+    "short.pack",
+    "left.pack",
+    "cut.pack",
+];
+
 fn main(rt: HostRuntime) -> io::Result<()> {
-    replay_pack(&rt, "named.pack")?;
-    replay_pack(&rt, "counts.pack")?;
-    replay_pack(&rt, "random.pack")?;
-    replay_pack(&rt, "manual.pack")?;
-    replay_pack(&rt, "wrong.pack")?;
-    replay_pack(&rt, "short.pack")?;
-    replay_pack(&rt, "left.pack")?;
-    replay_pack(&rt, "cut.pack")
+    for name in PACKS {
+        replay_pack(&rt, name)?;
+    }
+    Ok(())
 }

@@ -7,7 +7,6 @@ ghost use Rattle.io.specs.Counts.{IsPrefixLen};
 ghost use Rattle.lines.specs.Line.{Put};
 ghost use Rattle.stream_state.specs.State.{next_number, fresh_state, closed_within};
 
-use lines::LINE;
 use records::tables::{Tables, fresh_tables};
 
 pub mod fed;
@@ -30,13 +29,11 @@ pub fn fresh() -> State
 }
 
 // Lines are numbered from 1. No run reaches 2^64 - 1, the last number.
+#[tactic(auto, using(laws::proofs::Flow::branches), unfolding(crate::specs::State::next_number))]
 pub fn next_number(n: u64) -> u64
     ensures { result ≡ next_number n }
 {
-    if n < u64::MAX {
-        return n + 1;
-    }
-    n
+    n.saturating_add(1)
 }
 
 // At the end of the input: a command that was cut stops. A buffer with no room for a line gets nothing.
@@ -45,10 +42,7 @@ pub fn close(state: State, left: &[u8], out: &mut [u8]) -> usize
         (closed_within (length out.old) state left.now) }
     ensures prefix_len { IsPrefixLen result out.new }
 {
-    if out.len() < LINE {
-        return 0;
-    }
-    if left.len() == 0 {
+    if left.is_empty() {
         return 0;
     }
     lines::put_stop(out, 0, next_number(state.number))

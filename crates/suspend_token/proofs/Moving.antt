@@ -3,6 +3,7 @@
 --     task_found, some_is, none_is, ..         a task and its counts, as the tables have them
 --     suspends, resumes, creates, drops        the accepted calls
 -- Assumes nothing.
+use Rattle.std.proofs.Common.{Option}
 use Prim.Native.Nat.{ℕ, ◌%◌, ◌<◌, ◌≤◌}
 use native.Mathlib.Nat.{mod-eq_of_lt}
 use native.Mathlib.Omega.{arith}
@@ -21,7 +22,8 @@ use Rattle.record_thread.specs.declared.Thread.{Thread}
 use Rattle.record_thread.specs.Thread.{FULL, suspend, resume, no_thread}
 use Rattle.record_token.specs.declared.SuspendToken.{SuspendToken}
 use Rattle.record_token.specs.SuspendToken.{new_token, drop}
-use Rattle.thread_lists.specs.Each.{SUSPEND, RESUME, has_count, one_of, each_in, bars, each_unless}
+use Rattle.thread_lists.specs.declared.Each.{Each}
+use Rattle.thread_lists.specs.Each.{SUSPEND, RESUME, has_count, one_of, bars, changed_in, each_unless}
 use Rattle.thread_lists.proofs.Unless.{changed_is}
 use Rattle.records.specs.declared.tables.Tables.{Tables}
 use Rattle.records.specs.Tables.{thread_at, token_at}
@@ -29,8 +31,7 @@ use Rattle.records.proofs.Kept.{job_looked_up_at, process_looked_up_at, thread_l
 use Rattle.records.proofs.Kept.{token_looked_up_at, new_token_lem}
 use Rattle.records.proofs.Kept.{thread_kept, token_kept, thread_at_lem, token_at_lem}
 use Rattle.reply.specs.Reply.{answered}
-use Rattle.records.specs.declared.owners.FoundTask.{FoundTask}
-use Rattle.records.specs.Owners.{tasks_of, found_task, made_job, made_process, made_thread}
+use Rattle.records.specs.Owners.{tasks_of, found_task, as_task}
 use Rattle.model.specs.SuspendToken.{PROCESS, some_at, change_in, change_task, suspend_task}
 use Rattle.model.specs.SuspendToken.{resume_task, create_token, drop_token}
 use Rattle.model.proofs.Answering.{answering}
@@ -41,18 +42,18 @@ use Rattle.suspend_token.specs.SuspendToken.{changed, task_in, token_in, Concern
 
 -- ---- Nothing is changed --------------------------------------------------------------------------
 
-kept : (k : ℕ) (t : Tables) (kind n : ℕ) {v : Thread} (c : ℤ) →
+kept : (k : Each) (t : Tables) (kind n : ℕ) {v : Thread} (c : ℤ) →
     thread_at t (n % 128) ≡ v → changed k t kind n (task v c false) ≡ t
 unfolding changed if◌then◌otherwise◌ ◌and◌
 kept k t kind n c h = by (kind =? PROCESS) (λ a. rw a (thread_kept t (n % 128) h))
     (λ a. rw a (thread_kept t (n % 128) h))
 
-pub stays : {m : Task} (k : ℕ) (t : Tables) (kind n : ℕ) {v : Thread} (c : ℤ) →
+pub stays : {m : Task} (k : Each) (t : Tables) (kind n : ℕ) {v : Thread} (c : ℤ) →
     m ≡ task v c false → thread_at t (n % 128) ≡ v → task_in k t kind n m ≡ answered t c
 unfolding task_in
 stays k t kind n c e h = rw (e, kept k t kind n c h)
 
-pub token_stays : {m : Token} (k : ℕ) (t : Tables) (o kind n : ℕ) {x : SuspendToken} {v : Thread} (c : ℤ) →
+pub token_stays : {m : Token} (k : Each) (t : Tables) (o kind n : ℕ) {x : SuspendToken} {v : Thread} (c : ℤ) →
     m ≡ token x (task v c false) → token_at t (o % 64) ≡ x → thread_at t (n % 128) ≡ v →
     token_in k t o kind n m ≡ answered t c
 unfolding token_in
@@ -62,14 +63,14 @@ token_stays k t o kind n c e h g = rw (e, kept k t kind n c g, token_kept t (o %
 
 module _ (t : Tables) (kind n count : ℕ) {v : Thread} {q : Process} {j : Job} {barred : Bool}
     (h : Concerned t kind n count v q j barred) (l : n < tasks_of kind) where
-  pub task_found : {g : FoundTask} → g ≡ found_task_in kind v q j → g ≡ found_task t kind n
+  pub task_found : {g : Option Unit} → g ≡ found_task_in kind v q j → g ≡ found_task t kind n
   unfolding found_task_in found_task tasks_of if◌then◌otherwise◌
   task_found e =
       e ∙ by (kind =? 0)
-      (λ a. rw a (ap made_job (job_looked_up_at t n refl (rw a at l) h.2)))
+      (λ a. rw a (ap as_task (job_looked_up_at t n refl (rw a at l) h.2)))
       (λ a. by (kind =? 1)
-      (λ b. rw (a, b) (ap made_process (process_looked_up_at t n refl (rw (a, b) at l) h.1)))
-      (λ b. rw (a, b) (ap made_thread (thread_looked_up_at t n refl (rw (a, b) at l) h.0))))
+      (λ b. rw (a, b) (ap as_task (process_looked_up_at t n refl (rw (a, b) at l) h.1)))
+      (λ b. rw (a, b) (ap as_task (thread_looked_up_at t n refl (rw (a, b) at l) h.0))))
 
   pub some_is : {b : Bool} → kind =? 0 ≡ false → b ≡ some_in kind v barred count → b ≡ some_at t kind n count
   unfolding some_in some_at tasks_of if◌then◌otherwise◌
@@ -94,15 +95,15 @@ module _ (t : Tables) (kind n count : ℕ) {v : Thread} {q : Process} {j : Job} 
 -- where no thread bars it, each is changed
 suspended_each : (n : ℕ) (l : List Thread) → any (has_count n FULL) l ≡ false →
     (each_unless SUSPEND n l).threads ≡ map (change_in suspend n) l
-unfolding bars each_in one_of change_in if◌then◌otherwise◌
-suspended_each n l e = changed_is SUSPEND n l e
+unfolding bars changed_in one_of change_in if◌then◌otherwise◌
+suspended_each n l e = changed_is _ _ n l e
 
 resumed_each : (n : ℕ) (l : List Thread) → any (has_count n 0) l ≡ false →
     (each_unless RESUME n l).threads ≡ map (change_in resume n) l
-unfolding bars each_in one_of change_in if◌then◌otherwise◌
-resumed_each n l e = changed_is RESUME n l e
+unfolding bars changed_in one_of change_in if◌then◌otherwise◌
+resumed_each n l e = changed_is _ _ n l e
 
-module _ (k : ℕ) (f : Thread → Thread) (t : Tables) (kind n : ℕ) {v : Thread} (h : thread_at t (n % 128) ≡ v)
+module _ (k : Each) (f : Thread → Thread) (t : Tables) (kind n : ℕ) {v : Thread} (h : thread_at t (n % 128) ≡ v)
     (l : kind =? PROCESS ≡ false → n < 128)
     (u : kind =? PROCESS ≡ true → (each_unless k n t.threads).threads ≡ map (change_in f n) t.threads) where
   changes : {m : Task} → m ≡ (if kind =? PROCESS then task v (pos 0) true otherwise task (f v) (pos 0) false) →

@@ -1,6 +1,7 @@
 -- Suspending, resuming and tokens, over the records that they name: what a call gives, stored where the records were
 -- and done to each thread of the process where asked, is what the model says of the call, whatever else the tables
 -- hold.
+use Rattle.std.specs.Prelude.{Option}
 use Rattle.std.specs.Prelude.{ℕ, ◌%◌, ◌≡◌, Bool, true, false, length, ℤ, pos}
 use Rattle.laws.specs.Choice.{◌≤?◌, ◌=?◌, ◌and◌, if◌then◌otherwise◌}
 use Rattle.laws.specs.Lists.{any}
@@ -11,13 +12,13 @@ use Rattle.record_process.specs.Process.{found_process_in}
 use Rattle.record_thread.specs.declared.Thread.{Thread}
 use Rattle.record_thread.specs.Thread.{FULL, suspend, resume, found_thread_in}
 use Rattle.record_token.specs.declared.SuspendToken.{SuspendToken}
+use Rattle.thread_lists.specs.declared.Each.{Each}
 use Rattle.thread_lists.specs.Each.{SUSPEND, RESUME, has_count, each_unless}
 use Rattle.records.specs.declared.tables.Tables.{Tables}
 use Rattle.records.specs.Tables.{job_at, process_at, thread_at, token_at, put_thread, put_token, with_threads}
 use Rattle.reply.specs.declared.Reply.{Reply}
 use Rattle.reply.specs.Reply.{answered}
-use Rattle.records.specs.declared.owners.FoundTask.{FoundTask}
-use Rattle.records.specs.Owners.{made_job, made_process, made_thread}
+use Rattle.records.specs.Owners.{as_task}
 use Rattle.model.specs.SuspendToken.{PROCESS}
 use Rattle.suspend_token.specs.declared.Task.{Task}
 use Rattle.suspend_token.specs.declared.Token.{Token}
@@ -29,11 +30,11 @@ abbrev pub token : SuspendToken → Task → Token
 token k m = record { task = m; token = k }
 
 -- a made task
-unfoldable pub found_task_in : ℕ → Thread → Process → Job → FoundTask
+unfoldable pub found_task_in : ℕ → Thread → Process → Job → Option Unit
 found_task_in kind v q j =
-    if kind =? 0 then made_job (found_job_in j) otherwise
-    if kind =? 1 then made_process (found_process_in q) otherwise
-    made_thread (found_thread_in v)
+    if kind =? 0 then as_task (found_job_in j) otherwise
+    if kind =? 1 then as_task (found_process_in q) otherwise
+    as_task (found_thread_in v)
 
 -- does a thread concerned have this count? of a process's it is told
 unfoldable pub some_in : ℕ → Thread → Bool → ℕ → Bool
@@ -56,15 +57,15 @@ resumed_in kind v = if kind =? PROCESS then task v (pos 0) true otherwise task (
 
 -- where asked, k is done to each thread that process n lists, up to one that bars it; else the thread is stored where
 -- it was
-unfoldable pub changed : (k : ℕ) → Tables → (kind n : ℕ) → Task → Tables
+unfoldable pub changed : (k : Each) → Tables → (kind n : ℕ) → Task → Tables
 changed k t kind n m =
     if (kind =? PROCESS) and m.each then with_threads t (each_unless k n t.threads).threads
     otherwise put_thread t (n % 128) m.thread
 
-unfoldable pub task_in : (k : ℕ) → Tables → (kind n : ℕ) → Task → Reply
+unfoldable pub task_in : (k : Each) → Tables → (kind n : ℕ) → Task → Reply
 task_in k t kind n m = answered (changed k t kind n m) m.answer
 
-unfoldable pub token_in : (k : ℕ) → Tables → (token kind n : ℕ) → Token → Reply
+unfoldable pub token_in : (k : Each) → Tables → (token kind n : ℕ) → Token → Reply
 token_in k t token kind n m =
     answered (put_token (changed k t kind n m.task) (token % 64) m.token) m.task.answer
 

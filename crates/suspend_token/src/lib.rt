@@ -12,50 +12,39 @@ ghost use Rattle.suspend_token.specs.SuspendToken.{found_task_in, some_in, task,
 ghost use Rattle.suspend_token.specs.SuspendToken.{Suspends, Resumes, Creates, Drops, none_in};
 
 use error::Refusal;
-use record_job::{FoundJob, Job};
-use record_process::{FoundProcess, Process};
-use record_thread::{FoundThread, Thread};
-use record_token::{FoundToken, Kind, SuspendToken};
-use records::owners::FoundTask;
+use record_job::Job;
+use record_process::Process;
+use record_thread::Thread;
+use record_token::{Kind, SuspendToken};
 
 // -- Tasks: kind 0 is a job, 1 a process, 2 a thread -----------------------------------------------
 
 // How many names a kind has.
+#[tactic(auto, using(laws::proofs::Flow::branches), unfolding(records::specs::Owners::tasks_of))]
 fn tasks_of(kind: u8) -> u8
     ensures { result ≡ tasks_of kind }
 {
-    if kind == Kind::JOB {
-        return 32;
+    match kind {
+        Kind::JOB => 32,
+        Kind::PROCESS => 64,
+        _ => 128,
     }
-    if kind == Kind::PROCESS {
-        return 64;
-    }
-    128
 }
 
 // Whether a task is made.
-fn found_task(kind: u8, v: Thread, q: Process, j: Job) -> FoundTask
+#[tactic(auto, using(laws::proofs::Flow::branches), unfolding(crate::specs::SuspendToken::found_task_in, records::specs::Owners::as_task))]
+fn found_task(kind: u8, v: Thread, q: Process, j: Job) -> Option<()>
     ensures { result ≡ found_task_in kind v q j }
 {
-    if kind == Kind::JOB {
-        let FoundJob::OldJob(_) = j.found() else {
-            return FoundTask::NoTask;
-        };
-        return FoundTask::OldTask;
+    match kind {
+        Kind::JOB => j.found().map(|_| ()),
+        Kind::PROCESS => q.found().map(|_| ()),
+        _ => v.found().map(|_| ()),
     }
-    if kind == Kind::PROCESS {
-        let FoundProcess::OldProcess(_) = q.found() else {
-            return FoundTask::NoTask;
-        };
-        return FoundTask::OldTask;
-    }
-    let FoundThread::OldThread(_) = v.found() else {
-        return FoundTask::NoTask;
-    };
-    FoundTask::OldTask
 }
 
 // Whether a thread concerned has this count.
+#[tactic(auto, using(laws::proofs::Flow::branches), unfolding(crate::specs::SuspendToken::some_in))]
 fn some_at(kind: u8, v: Thread, barred: bool, count: u16) -> bool
     ensures { result ≡ some_in kind v barred count }
 {
@@ -115,7 +104,7 @@ pub fn suspend(kind: u8, name: u8, v: Thread, q: Process, j: Job, barred: bool) 
     if tasks_of(kind) <= name {
         return Task::new(v, Refusal::PAST_TABLE, false);
     }
-    let FoundTask::OldTask = found_task(kind, v, q, j) else {
+    let Some(()) = found_task(kind, v, q, j) else {
         return Task::new(v, Refusal::NOT_MADE, false);
     };
     if kind == Kind::JOB {
@@ -137,7 +126,7 @@ pub fn resume(kind: u8, name: u8, v: Thread, q: Process, j: Job, barred: bool) -
     if tasks_of(kind) <= name {
         return Task::new(v, Refusal::PAST_TABLE, false);
     }
-    let FoundTask::OldTask = found_task(kind, v, q, j) else {
+    let Some(()) = found_task(kind, v, q, j) else {
         return Task::new(v, Refusal::NOT_MADE, false);
     };
     if kind == Kind::JOB {
@@ -194,7 +183,7 @@ pub fn create(
     if tasks_of(kind) <= name {
         return Token::refused(k, v, Refusal::PAST_TABLE);
     }
-    let FoundTask::OldTask = found_task(kind, v, q, j) else {
+    let Some(()) = found_task(kind, v, q, j) else {
         return Token::refused(k, v, Refusal::NOT_MADE);
     };
     if k.made {
@@ -210,6 +199,7 @@ pub fn create(
 }
 
 // Whether a thread concerned has no suspension; a name past the table has none.
+#[tactic(auto, using(laws::proofs::Flow::branches), unfolding(crate::specs::SuspendToken::none_in))]
 fn none_at(k: SuspendToken, v: Thread, barred: bool) -> bool
     ensures { result ≡ none_in k v barred }
 {
@@ -230,7 +220,7 @@ pub fn drop(token: u8, k: SuspendToken, v: Thread, barred: bool) -> Token
     if 64 <= token {
         return Token::refused(k, v, Refusal::PAST_TABLE);
     }
-    let FoundToken::OldToken(w) = k.found() else {
+    let Some(w) = k.found() else {
         return Token::refused(k, v, Refusal::NOT_MADE);
     };
     if none_at(w, v, barred) {

@@ -7,251 +7,198 @@ ghost use Rattle.model.specs.ThreadCalls.{start_thread, kill_thread, exit_thread
 ghost use Rattle.model.specs.ThreadCalls.{thread_information, waiting_level, begin_wait, poll_wait};
 ghost use Rattle.model.specs.ThreadCalls.{is_wait_state, wait_answer, is_pending};
 ghost use Rattle.model.specs.ThreadCalls.{create_thread};
-ghost use Rattle.thread.specs.Move.{move, Moves, Finishes, Shows};
-ghost use Rattle.thread.specs.Pair.{pair, MovesBoth};
+ghost use Rattle.error.specs.Numbers.{answer_of};
+ghost use Rattle.thread.specs.Move.{Shows, Settles, Ends};
+ghost use Rattle.thread.specs.Pair.{SettlesBoth};
 
 use error::{Refusal, ZxError};
-use record_process::{FoundProcess, Process};
-use record_thread::{FoundThread, Thread, ThreadState, Waiting};
+use record_process::Process;
+use record_thread::{Thread, ThreadState, Waiting};
 use reply::{Fields, Shown};
-
-// What a call comes to: its answer, and the thread after it.
-#[derive(Drop)]
-pub struct Move {
-    pub answer: i64,
-    pub thread: Thread,
-}
-
-impl Move {
-    pub fn new(v: Thread, answer: i64) -> Move
-        ensures { result ≡ move v answer }
-    {
-        Move {
-            answer: answer,
-            thread: v,
-        }
-    }
-}
-
-// What a call on a process and a thread comes to.
-#[derive(Drop)]
-pub struct Both {
-    pub answer: i64,
-    pub process: Process,
-    pub thread: Thread,
-}
-
-impl Both {
-    pub fn new(q: Process, v: Thread, answer: i64) -> Both
-        ensures { result ≡ pair q v answer }
-    {
-        Both {
-            answer: answer,
-            process: q,
-            thread: v,
-        }
-    }
-}
 
 // -- Making ----------------------------------------------------------------------------------
 
 // 08: `Thread::create_with_ext`; v is the record of the new name.
-pub fn create_with_ext(process: u8, new: u8, q: Process, v: Thread) -> Both
-    ensures { MovesBoth (λ t. create_thread t process new) process new q v result }
+pub fn create_with_ext(process: u8, new: u8, q: Process, v: &mut Thread) -> Result<(), Refusal>
+    ensures { SettlesBoth (λ t. create_thread t process new) process new q v.old q v.new result }
 {
     if 64 <= process {
-        return Both::new(q, v, Refusal::PAST_TABLE);
+        return Err(Refusal::PastTable);
     }
     if 128 <= new {
-        return Both::new(q, v, Refusal::PAST_TABLE);
+        return Err(Refusal::PastTable);
     }
-    let FoundProcess::OldProcess(old) = q.found() else {
-        return Both::new(q, v, Refusal::NOT_MADE);
+    let Some(old) = q.found() else {
+        return Err(Refusal::NotMade);
     };
     if v.made {
-        return Both::new(q, v, Refusal::USED);
+        return Err(Refusal::Used);
     }
     let status = old.status;
     if status.is_exited() {
-        return Both::new(q, v, ZxError::BAD_STATE);
+        return Err(Refusal::Zx(ZxError::BadState));
     }
-    Both::new(q, Thread::new(process), 0)
+    *v = Thread::new(process);
+    Ok(())
 }
 
 // -- Running and ending ----------------------------------------------------------------------
 
 // 09: `Thread::start`.
-pub fn start(thread: u8, v: Thread) -> Move
-    ensures { Moves (λ t. start_thread t thread) thread v result }
+#[tactic(auto, using(crate::proofs::Moving::settling), unfolding(model::specs::ThreadCalls::start_thread))]
+pub fn start(thread: u8, v: &mut Thread) -> Result<(), Refusal>
+    ensures { Settles (λ t. start_thread t thread) thread v.old v.new result }
 {
     if 128 <= thread {
-        return Move::new(v, Refusal::PAST_TABLE);
+        return Err(Refusal::PastTable);
     }
-    let FoundThread::OldThread(w) = v.found() else {
-        return Move::new(v, Refusal::NOT_MADE);
+    let Some(w) = v.found() else {
+        return Err(Refusal::NotMade);
     };
     if w.started {
-        return Move::new(v, Refusal::OUT_OF_TURN);
+        return Err(Refusal::OutOfTurn);
     }
-    Move::new(w.start(), 0)
+    *v = w.start();
+    Ok(())
 }
 
 // 0a: `Thread::kill`.
-pub fn kill(thread: u8, v: Thread) -> Move
-    ensures { Moves (λ t. kill_thread t thread) thread v result }
+#[tactic(auto, using(crate::proofs::Moving::settling), unfolding(model::specs::ThreadCalls::kill_thread))]
+pub fn kill(thread: u8, v: &mut Thread) -> Result<(), Refusal>
+    ensures { Settles (λ t. kill_thread t thread) thread v.old v.new result }
 {
     if 128 <= thread {
-        return Move::new(v, Refusal::PAST_TABLE);
+        return Err(Refusal::PastTable);
     }
-    let FoundThread::OldThread(w) = v.found() else {
-        return Move::new(v, Refusal::NOT_MADE);
+    let Some(w) = v.found() else {
+        return Err(Refusal::NotMade);
     };
-    Move::new(w.kill(), 0)
+    *v = w.kill();
+    Ok(())
 }
 
 // 0b: `CurrentThread::exit`.
-pub fn exit(thread: u8, v: Thread) -> Move
-    ensures { Moves (λ t. exit_thread t thread) thread v result }
+#[tactic(auto, using(crate::proofs::Moving::settling), unfolding(model::specs::ThreadCalls::exit_thread))]
+pub fn exit(thread: u8, v: &mut Thread) -> Result<(), Refusal>
+    ensures { Settles (λ t. exit_thread t thread) thread v.old v.new result }
 {
     if 128 <= thread {
-        return Move::new(v, Refusal::PAST_TABLE);
+        return Err(Refusal::PastTable);
     }
-    let FoundThread::OldThread(w) = v.found() else {
-        return Move::new(v, Refusal::NOT_MADE);
+    let Some(w) = v.found() else {
+        return Err(Refusal::NotMade);
     };
     if !w.is_free() {
-        return Move::new(v, Refusal::OUT_OF_TURN);
+        return Err(Refusal::OutOfTurn);
     }
-    Move::new(w.exit(), 0)
+    *v = w.exit();
+    Ok(())
 }
 
-// What 0c comes to. Where the thread finishes, its process is left with one thread less.
-#[derive(Drop)]
-pub struct Finishing {
-    pub answer: i64,
-    pub finishes: bool,
-    pub thread: Thread,
-}
-
-// 0c: `CurrentThread` dropped.
-pub fn finish(thread: u8, v: Thread) -> Finishing
-    ensures { Finishes (λ t. finish_thread_call t thread) thread v result }
+// 0c: `CurrentThread` dropped. Where it is accepted the thread is finished, and its process is left with one less.
+#[tactic(auto, using(crate::proofs::Moving::settling), unfolding(model::specs::ThreadCalls::finish_thread_call))]
+pub fn finish(thread: u8, v: &mut Thread) -> Result<(), Refusal>
+    ensures { Ends (λ t. finish_thread_call t thread) thread v.old v.new result }
 {
     if 128 <= thread {
-        return Finishing {
-            answer: Refusal::PAST_TABLE,
-            finishes: false,
-            thread: v,
-        };
+        return Err(Refusal::PastTable);
     }
-    let FoundThread::OldThread(w) = v.found() else {
-        return Finishing {
-            answer: Refusal::NOT_MADE,
-            finishes: false,
-            thread: v,
-        };
+    let Some(w) = v.found() else {
+        return Err(Refusal::NotMade);
     };
     if !w.is_free() {
-        return Finishing {
-            answer: Refusal::OUT_OF_TURN,
-            finishes: false,
-            thread: v,
-        };
+        return Err(Refusal::OutOfTurn);
     }
-    Finishing {
-        answer: 0,
-        finishes: true,
-        thread: w.finish(),
-    }
+    *v = w.finish();
+    Ok(())
 }
 
 // -- Plain waits -----------------------------------------------------------------------------
 
 // Blocked (3), or 0x203 to 0x903 in steps of 0x100.
+#[tactic(auto, using(laws::proofs::Flow::branches), unfolding(model::specs::ThreadCalls::is_wait_state))]
 fn is_wait_state(state: u16) -> bool
     ensures { result ≡ is_wait_state state }
 {
-    if state == ThreadState::BLOCKED {
-        return true;
+    match state {
+        ThreadState::BLOCKED => true,
+        ThreadState::BLOCKED_SLEEPING..=ThreadState::BLOCKED_PAGER => state % 0x100 == 3,
+        _ => false,
     }
-    if ThreadState::BLOCKED_SLEEPING <= state {
-        if state <= ThreadState::BLOCKED_PAGER {
-            return state % 0x100 == 3;
-        }
-    }
-    false
 }
 
 // 19: begins a plain wait. None begins while Dying.
-pub fn begin_wait(thread: u8, v: Thread, state: u16) -> Move
-    ensures { Moves (λ t. begin_wait t thread state) thread v result }
+#[tactic(auto, using(crate::proofs::Moving::settling), unfolding(model::specs::ThreadCalls::begin_wait, model::specs::ThreadCalls::wait_begun))]
+pub fn begin_wait(thread: u8, v: &mut Thread, state: u16) -> Result<(), Refusal>
+    ensures { Settles (λ t. begin_wait t thread state) thread v.old v.new result }
 {
     if !is_wait_state(state) {
-        return Move::new(v, Refusal::BAD_FIELD);
+        return Err(Refusal::BadField);
     }
     if 128 <= thread {
-        return Move::new(v, Refusal::PAST_TABLE);
+        return Err(Refusal::PastTable);
     }
-    let FoundThread::OldThread(w) = v.found() else {
-        return Move::new(v, Refusal::NOT_MADE);
+    let Some(w) = v.found() else {
+        return Err(Refusal::NotMade);
     };
     if !w.is_free() {
-        return Move::new(v, Refusal::OUT_OF_TURN);
+        return Err(Refusal::OutOfTurn);
     }
     if w.state == ThreadState::DYING {
-        return Move::new(v, ZxError::STOP);
+        return Err(Refusal::Zx(ZxError::Stop));
     }
-    Move::new(w.waits(state, Waiting::InWait), 0)
+    *v = w.waits(state, Waiting::InWait);
+    Ok(())
 }
 
 // The first that is true: done, killed since it began, deadline, cancelled; else still pending.
-fn wait_answer(v: Thread, ready: u8) -> i64
-    ensures { result ≡ wait_answer v ready }
+fn wait_answer(v: Thread, ready: u8) -> Result<(), Refusal>
+    ensures { answer_of result ≡ wait_answer v ready }
 {
-    if ready / 1 % 2 == 1 {
-        return 0;
+    if ready & 1 != 0 {
+        return Ok(());
     }
     if v.state == ThreadState::DYING {
-        return ZxError::STOP;
+        return Err(Refusal::Zx(ZxError::Stop));
     }
-    if ready / 2 % 2 == 1 {
-        return ZxError::TIMED_OUT;
+    if ready & 2 != 0 {
+        return Err(Refusal::Zx(ZxError::TimedOut));
     }
-    if ready / 4 % 2 == 1 {
-        return ZxError::CANCELED;
+    if ready & 4 != 0 {
+        return Err(Refusal::Zx(ZxError::Canceled));
     }
-    ZxError::SHOULD_WAIT
+    Err(Refusal::Zx(ZxError::ShouldWait))
 }
 
+#[tactic(auto, using(laws::proofs::Flow::branches), unfolding(model::specs::ThreadCalls::is_pending))]
 fn is_pending(v: Thread, ready: u8) -> bool
     ensures { result ≡ is_pending v ready }
 {
-    if ready == 0 {
-        return v.state != ThreadState::DYING;
-    }
-    false
+    ready == 0 && v.state != ThreadState::DYING
 }
 
-// 1a: polls a plain wait.
-pub fn poll_wait(thread: u8, v: Thread, ready: u8) -> Move
-    ensures { Moves (λ t. poll_wait t thread ready) thread v result }
+// 1a: polls a plain wait. Once it is over the thread is out of it, whatever the outcome.
+#[tactic(auto, using(crate::proofs::Moving::settling), unfolding(model::specs::ThreadCalls::poll_wait, model::specs::ThreadCalls::wait_polled))]
+pub fn poll_wait(thread: u8, v: &mut Thread, ready: u8) -> Result<(), Refusal>
+    ensures { Settles (λ t. poll_wait t thread ready) thread v.old v.new result }
 {
     if 7 < ready {
-        return Move::new(v, Refusal::BAD_FIELD);
+        return Err(Refusal::BadField);
     }
     if 128 <= thread {
-        return Move::new(v, Refusal::PAST_TABLE);
+        return Err(Refusal::PastTable);
     }
-    let FoundThread::OldThread(w) = v.found() else {
-        return Move::new(v, Refusal::NOT_MADE);
+    let Some(w) = v.found() else {
+        return Err(Refusal::NotMade);
     };
     if !w.is_in_wait() {
-        return Move::new(v, Refusal::OUT_OF_TURN);
+        return Err(Refusal::OutOfTurn);
     }
     if is_pending(w, ready) {
-        return Move::new(v, ZxError::SHOULD_WAIT);
+        return Err(Refusal::Zx(ZxError::ShouldWait));
     }
-    Move::new(w.end_wait(), wait_answer(w, ready))
+    *v = w.end_wait();
+    wait_answer(w, ready)
 }
 
 // -- Information -----------------------------------------------------------------------------
@@ -277,7 +224,7 @@ pub fn get_thread_info(thread: u8, v: Thread) -> Shown
     if 128 <= thread {
         return Shown::answered(Refusal::PAST_TABLE);
     }
-    let FoundThread::OldThread(w) = v.found() else {
+    let Some(w) = v.found() else {
         return Shown::answered(Refusal::NOT_MADE);
     };
     let waiting = w.waiting;

@@ -5,42 +5,38 @@
 ghost use Rattle.std.specs.Prelude.{◌≡◌};
 ghost use Rattle.model.specs.ThreadCalls.{create_thread, start_thread, kill_thread, exit_thread, finish_thread_call};
 ghost use Rattle.model.specs.ThreadCalls.{begin_wait, poll_wait, thread_information};
-ghost use Rattle.thread.specs.Move.{moved, finished};
-ghost use Rattle.thread.specs.Pair.{both_moved};
+ghost use Rattle.thread.specs.Move.{settled, ended};
+ghost use Rattle.thread.specs.Pair.{both_settled};
 
+use error::Refusal;
+use record_process::Process;
+use record_thread::Thread;
 use records::reading::{process_at, thread_at};
 use records::tables::Tables;
 use reply::Reply;
-use thread::{Both, Finishing, Move};
 
 // -- What a call gave, stored where the records were -------------------------------------------
 
-pub fn moved(t: Tables, thread: u8, m: Move) -> Reply
-    ensures { result ≡ moved t thread m }
+// The records and the outcome of a call on a process and a thread.
+pub fn both_settled(
+    t: Tables,
+    process: u8,
+    thread: u8,
+    q: Process,
+    v: Thread,
+    outcome: Result<(), Refusal>,
+) -> Reply
+    ensures { result ≡ both_settled t process thread q v outcome }
 {
-    let v = m.thread;
-    Reply::answered(t.with_thread(thread % 128, v), m.answer)
-}
-
-pub fn both_moved(t: Tables, process: u8, thread: u8, m: Both) -> Reply
-    ensures { result ≡ both_moved t process thread m }
-{
-    let q = m.process;
-    let v = m.thread;
     let u = t.with_process(process % 64, q);
-    Reply::answered(u.with_thread(thread % 128, v), m.answer)
+    Reply::answered(u.with_thread(thread % 128, v), error::answer_of(outcome))
 }
 
-// Where the thread finishes, its process is left with one thread less.
-fn finished(t: Tables, thread: u8, m: Finishing) -> Reply
-    ensures { result ≡ finished t thread m }
+#[tactic(auto, unfolding(thread::specs::Move::settled))]
+fn settled(t: Tables, thread: u8, v: Thread, done: Result<(), Refusal>) -> Reply
+    ensures { result ≡ settled t thread v done }
 {
-    let v = m.thread;
-    let u = t.with_thread(thread % 128, v);
-    if m.finishes {
-        return Reply::answered(cascade::remove_thread(u, v.process), m.answer);
-    }
-    Reply::answered(u, m.answer)
+    Reply::answered(t.with_thread(thread % 128, v), error::answer_of(done))
 }
 
 // -- Making, running and ending ----------------------------------------------------------------
@@ -50,40 +46,50 @@ pub fn create_with_ext(t: Tables, process: u8, new: u8) -> Reply
     ensures { result ≡ create_thread t process new }
 {
     let q = process_at(t, process % 64);
-    let v = thread_at(t, new % 128);
-    both_moved(t, process, new, thread::create_with_ext(process, new, q, v))
+    let mut v = thread_at(t, new % 128);
+    let outcome = thread::create_with_ext(process, new, q, &mut v);
+    both_settled(t, process, new, q, v, outcome)
 }
 
 // 09: `Thread::start`.
 pub fn start(t: Tables, thread: u8) -> Reply
     ensures { result ≡ start_thread t thread }
 {
-    let v = thread_at(t, thread % 128);
-    moved(t, thread, thread::start(thread, v))
+    let mut v = thread_at(t, thread % 128);
+    let done = thread::start(thread, &mut v);
+    settled(t, thread, v, done)
 }
 
 // 0a: `Thread::kill`.
 pub fn kill(t: Tables, thread: u8) -> Reply
     ensures { result ≡ kill_thread t thread }
 {
-    let v = thread_at(t, thread % 128);
-    moved(t, thread, thread::kill(thread, v))
+    let mut v = thread_at(t, thread % 128);
+    let done = thread::kill(thread, &mut v);
+    settled(t, thread, v, done)
 }
 
 // 0b: `CurrentThread::exit`.
 pub fn exit(t: Tables, thread: u8) -> Reply
     ensures { result ≡ exit_thread t thread }
 {
-    let v = thread_at(t, thread % 128);
-    moved(t, thread, thread::exit(thread, v))
+    let mut v = thread_at(t, thread % 128);
+    let done = thread::exit(thread, &mut v);
+    settled(t, thread, v, done)
 }
 
-// 0c: `CurrentThread` dropped.
+// 0c: `CurrentThread` dropped. Where it is accepted, the process is left with one thread less.
 pub fn finish(t: Tables, thread: u8) -> Reply
     ensures { result ≡ finish_thread_call t thread }
 {
-    let v = thread_at(t, thread % 128);
-    finished(t, thread, thread::finish(thread, v))
+    let mut v = thread_at(t, thread % 128);
+    match thread::finish(thread, &mut v) {
+        Ok(()) => {
+            let u = t.with_thread(thread % 128, v);
+            Reply::answered(cascade::remove_thread(u, v.process), 0)
+        }
+        Err(refusal) => settled(t, thread, v, Err(refusal)),
+    }
 }
 
 // -- Plain waits and information ---------------------------------------------------------------
@@ -92,16 +98,18 @@ pub fn finish(t: Tables, thread: u8) -> Reply
 pub fn begin_wait(t: Tables, thread: u8, state: u16) -> Reply
     ensures { result ≡ begin_wait t thread state }
 {
-    let v = thread_at(t, thread % 128);
-    moved(t, thread, thread::begin_wait(thread, v, state))
+    let mut v = thread_at(t, thread % 128);
+    let done = thread::begin_wait(thread, &mut v, state);
+    settled(t, thread, v, done)
 }
 
 // 1a: polls a plain wait.
 pub fn poll_wait(t: Tables, thread: u8, ready: u8) -> Reply
     ensures { result ≡ poll_wait t thread ready }
 {
-    let v = thread_at(t, thread % 128);
-    moved(t, thread, thread::poll_wait(thread, v, ready))
+    let mut v = thread_at(t, thread % 128);
+    let done = thread::poll_wait(thread, &mut v, ready);
+    settled(t, thread, v, done)
 }
 
 // 1d: thread information.

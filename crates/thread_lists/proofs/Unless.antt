@@ -1,9 +1,9 @@
 -- A change of each thread that a process lists, up to one that bars it.
---     Changing, begins, halts, goes_on_lem, passes, ends   the loop: what is left, behind what is done, is the whole
---     barred_is, changed_is, some_is           what it comes to where none bars it
---     full_bars, none_bars                     a full count bars a suspension, a count of 0 a resumption
+--     behind, halts, goes_on_lem, passes, ends   the loop: what is left, behind what is done, is the whole
+--     barred_is, changed_is                      what it comes to where none bars it
+--     full_bars, none_bars                       a full count bars a suspension, a count of 0 a resumption
 -- Assumes nothing.
-use Prim.Native.Nat.{ℕ, suc, ◌+◌, ◌<◌, ◌≤◌}
+use Prim.Native.Nat.{ℕ, zero, suc, ◌+◌, ◌<◌, ◌≤◌}
 use native.Mathlib.Numerals.{add-one}
 use native.Mathlib.Omega.{arith}
 use mathlib.Core.Path.{◌≡◌, refl, sym, ap, ◌∙◌}
@@ -14,123 +14,115 @@ use lib.Seq.{drop-cons, take_all, take-suc, take-suc-set, drop-set-lt}
 use Rattle.laws.specs.Choice.{◌and◌, ◌or◌, if◌then◌otherwise◌, ite}
 use Rattle.laws.specs.Lists.{any}
 use Rattle.laws.proofs.Cases.{by, no_both}
+use Rattle.laws.proofs.Loops.{map_to, map_to_next}
 use Rattle.record_thread.specs.declared.Thread.{Thread}
 use Rattle.record_thread.specs.Thread.{FULL, no_thread, thread_of}
 use Rattle.thread_lists.specs.declared.Changed.{Changed}
-use Rattle.thread_lists.specs.Each.{SUSPEND, RESUME, has_count, one_of, each_in, bars, changed, each_unless}
+use Rattle.thread_lists.specs.Each.{SUSPEND, RESUME, has_count, bars, changed, changed_in, changed_unless, each_unless}
 
--- threads before, and whether one of them was listed
-abbrev joined : List Thread → Bool → Changed → Changed
-joined l s r = changed r.barred (s or r.some) (l ++ r.threads)
+-- threads before those of a change
+abbrev pub behind : List Thread → Changed → Changed
+behind l r = changed r.barred (l ++ r.threads)
 
-or_true : (b : Bool) → b or true ≡ true
-unfolding ◌or◌
-or_true true = refl
-or_true false = refl
+pub put_same : (l : List Thread) (i : ℕ) → i < length l → set l i (get_or l i no_thread) ≡ l
+put_same [] i h = refl
+put_same (x ∷ l) zero h = refl
+put_same (x ∷ l) (suc i) h = ap (λ (m : List Thread). x ∷ m) (put_same l i (omega arith))
 
-or_false : (b : Bool) → b or false ≡ b
-unfolding ◌or◌
-or_false true = refl
-or_false false = refl
+module _ (f : Thread → Thread) (b : Thread → Bool) (p : ℕ) where
+  -- ---- One thread ----------------------------------------------------------------------------------
 
--- ---- One thread ------------------------------------------------------------------------------------
+  stays : (v : Thread) (l : List Thread) → thread_of v p ≡ false →
+      changed_unless f b p (v ∷ l) ≡ behind (v ∷ []) (changed_unless f b p l)
+  unfolding changed_unless changed_in ◌and◌ if◌then◌otherwise◌ ite
+  stays v l e = rw e
 
-module _ (k p : ℕ) (v : Thread) (l : List Thread) where
-  stays : thread_of v p ≡ false → each_unless k p (v ∷ l) ≡ joined (v ∷ []) false (each_unless k p l)
-  unfolding each_unless each_in ◌and◌ ◌or◌ if◌then◌otherwise◌ ite
-  stays e = rw e
+  bars_it : (v : Thread) (l : List Thread) → thread_of v p ≡ true → b v ≡ true →
+      changed_unless f b p (v ∷ l) ≡ changed true (v ∷ l)
+  unfolding changed_unless ◌and◌ ite
+  bars_it v l e h = rw (e, h)
 
-  bars_it : thread_of v p ≡ true → bars k v ≡ true → each_unless k p (v ∷ l) ≡ changed true true (v ∷ l)
-  unfolding each_unless ◌and◌ ite
-  bars_it e b = rw (e, b)
+  changes : (v : Thread) (l : List Thread) → thread_of v p ≡ true → b v ≡ false →
+      changed_unless f b p (v ∷ l) ≡ behind (f v ∷ []) (changed_unless f b p l)
+  unfolding changed_unless changed_in ◌and◌ if◌then◌otherwise◌ ite
+  changes v l e h = rw (e, h)
 
-  changes : thread_of v p ≡ true → bars k v ≡ false →
-      each_unless k p (v ∷ l) ≡ joined (one_of k v ∷ []) true (each_unless k p l)
-  unfolding each_unless each_in ◌and◌ ◌or◌ if◌then◌otherwise◌ ite
-  changes e b = rw (e, b)
+  -- ---- The loop: l₀ before, l now ------------------------------------------------------------------
 
--- ---- The loop --------------------------------------------------------------------------------------
+  module _ (l₀ l : List Thread) (i : ℕ) (at : i < length l)
+      (inv : changed_unless f b p l₀ ≡ behind (take i l) (changed_unless f b p (drop i l))) where
+    abbrev here : Thread
+    here = get_or l i no_thread
 
--- l₀ before, l now: what is left from i on, behind what is done, is the whole
-abbrev pub Changing : ℕ → ℕ → List Thread → List Thread → Bool → ℕ → Type 0
-Changing k p l₀ l s i =
-    (length l ≡ 128) × (each_unless k p l₀ ≡ joined (take i l) s (each_unless k p (drop i l)))
+    -- the one at i, before the rest
+    next : (r : Changed) → changed_unless f b p (here ∷ drop (suc i) l) ≡ r →
+        changed_unless f b p l₀ ≡ behind (take i l) r
+    next r e = inv ∙ rw (drop-cons l i no_thread at, e)
 
-pub begins : (r : Changed) → r ≡ joined [] false r
-unfolding ◌or◌
-begins r = refl
+    -- m are the threads after the turn
+    pub halts : {m : List Thread} {x y : Bool} → x ≡ thread_of here p → x ≡ true → y ≡ b here → y ≡ true →
+        m ≡ set l i here → changed true m ≡ changed_unless f b p l₀
+    halts e h g k q =
+        let whole : take i l ++ (here ∷ drop (suc i) l) ≡ l =
+        rw (← drop-cons l i no_thread at) (take-append-drop i l) in
+        sym (next _ (bars_it here (drop (suc i) l) (sym e ∙ h) (sym g ∙ k)) ∙ rw (whole, q, put_same l i at))
 
-module _ (k p : ℕ) (l₀ l : List Thread) (s : Bool) (i : ℕ) (inv : Changing k p l₀ l s i) where
-  abbrev here : Thread
-  here = get_or l i no_thread
+    pub goes_on_lem : {m : List Thread} {x y : Bool} {w : Thread} → x ≡ thread_of here p → x ≡ true → y ≡ b here →
+        y ≡ false → w ≡ f here → m ≡ set l i w →
+        changed_unless f b p l₀ ≡ behind (take (i + 1) m) (changed_unless f b p (drop (i + 1) m))
+    goes_on_lem {w = w} e h g k o q =
+        let j : i < suc i = omega arith in
+        next _ (changes here (drop (suc i) l) (sym e ∙ h) (sym g ∙ k))
+        ∙ rw (q, add-one, take-suc-set l i w at, drop-set-lt (suc i) l i w j, append_assoc, o)
 
-  within : i < 128 → i < length l
-  within h = omega arith
+    pub passes : {m : List Thread} {x : Bool} → x ≡ thread_of here p → x ≡ false → m ≡ set l i here →
+        changed_unless f b p l₀ ≡ behind (take (i + 1) m) (changed_unless f b p (drop (i + 1) m))
+    passes e h q =
+        next _ (stays here (drop (suc i) l) (sym e ∙ h))
+        ∙ rw (q, put_same l i at, add-one, take-suc l i no_thread at, append_assoc)
 
-  -- the one at i, before the rest
-  next : i < 128 → (r : Changed) → each_unless k p (here ∷ drop (suc i) l) ≡ r → each_unless k p l₀ ≡ joined
-      (take i l) s r
-  next h r e = inv.1 ∙ rw (drop-cons l i no_thread (within h), e)
+  pub ends : (l₀ l : List Thread) (i : ℕ) → length l ≤ i →
+      changed_unless f b p l₀ ≡ behind (take i l) (changed_unless f b p (drop i l)) →
+      changed false l ≡ changed_unless f b p l₀
+  unfolding changed_unless
+  ends l₀ l i h inv = sym (inv ∙ rw (drop_of_length-le l h, take_all i l h, append-nil))
 
-  pub halts : {r b : Bool} → i < 128 → r ≡ thread_of here p → r ≡ true → b ≡ bars k here → b ≡ true →
-      changed true true l ≡ each_unless k p l₀
-  halts h a x c y =
-      let whole : take i l ++ (here ∷ drop (suc i) l) ≡ l =
-      rw (← drop-cons l i no_thread (within h)) (take-append-drop i l) in
-      sym (next h _ (bars_it k p here (drop (suc i) l) (sym a ∙ x) (sym c ∙ y)) ∙ rw (or_true s, whole))
+  -- ---- What it comes to ----------------------------------------------------------------------------
 
-  pub goes_on_lem : {r b : Bool} {w : Thread} → i < 128 → r ≡ thread_of here p → r ≡ true →
-      b ≡ bars k here → b ≡ false →
-      w ≡ one_of k here →
-      each_unless k p l₀ ≡ joined (take (i + 1) (set l i w)) true (each_unless k p (drop (i + 1) (set l i w)))
-  unfolding ◌or◌
-  goes_on_lem {w = w} h a x c y e =
-      let j : i < suc i = omega arith in
-      let m = each_unless k p (drop (suc i) l) in
-      next h _ (changes k p here (drop (suc i) l) (sym a ∙ x) (sym c ∙ y))
-      ∙ rw (add-one, take-suc-set l i w (within h), drop-set-lt (suc i) l i w j, append_assoc, e, or_true s)
-
-  pub passes : {r : Bool} → i < 128 → r ≡ thread_of here p → r ≡ false →
-      each_unless k p l₀ ≡ joined (take (i + 1) l) s (each_unless k p (drop (i + 1) l))
-  unfolding ◌or◌
-  passes h a x =
-      next h _ (stays k p here (drop (suc i) l) (sym a ∙ x))
-      ∙ rw (add-one, take-suc l i no_thread (within h), append_assoc)
-
-  pub ends : 128 ≤ i → changed false s l ≡ each_unless k p l₀
-  unfolding each_unless
-  ends h =
-      let long : length l ≤ i = omega arith in
-      sym (inv.1 ∙ rw (drop_of_length-le l long, take_all i l long, append-nil, or_false s))
-
--- ---- What it comes to ------------------------------------------------------------------------------
-
-module _ (k p : ℕ) where
-  pub barred_is : (l : List Thread) → (each_unless k p l).barred ≡ any (λ v. thread_of v p and bars k v) l
-  unfolding each_unless any ite ◌or◌
+  pub barred_is : (l : List Thread) → (changed_unless f b p l).barred ≡ any (λ v. thread_of v p and b v) l
+  unfolding changed_unless any ite ◌or◌
   barred_is [] = refl
-  barred_is (v ∷ l) = by (thread_of v p and bars k v) (λ h. rw h) (λ h. rw h (barred_is l))
+  barred_is (v ∷ l) = by (thread_of v p and b v) (λ h. rw h) (λ h. rw h (barred_is l))
 
-  pub changed_is : (l : List Thread) → any (λ v. thread_of v p and bars k v) l ≡ false →
-      (each_unless k p l).threads ≡ map (each_in k p) l
-  unfolding each_unless any ite ◌or◌
+  pub changed_is : (l : List Thread) → any (λ v. thread_of v p and b v) l ≡ false →
+      (changed_unless f b p l).threads ≡ map (changed_in f p) l
+  unfolding changed_unless any ite ◌or◌
   changed_is [] e = refl
   changed_is (v ∷ l) e =
-      by (thread_of v p and bars k v) (λ h. no_both refl (rw h at e))
-      (λ h. rw h (ap (λ (m : List Thread). each_in k p v ∷ m) (changed_is l (rw h at e))))
-
-  pub some_is : (l : List Thread) → any (λ v. thread_of v p and bars k v) l ≡ false →
-      (each_unless k p l).some ≡ any (λ v. thread_of v p) l
-  unfolding each_unless any ite ◌or◌
-  some_is [] e = refl
-  some_is (v ∷ l) e =
-      by (thread_of v p and bars k v) (λ h. no_both refl (rw h at e))
-      (λ h. rw h (ap (λ (b : Bool). thread_of v p or b) (some_is l (rw h at e))))
+      by (thread_of v p and b v) (λ h. no_both refl (rw h at e))
+      (λ h. rw h (ap (λ (m : List Thread). changed_in f p v ∷ m) (changed_is l (rw h at e))))
 
 pub full_bars : (n : ℕ) (l : List Thread) → any (has_count n FULL) l ≡ (each_unless SUSPEND n l).barred
-unfolding bars if◌then◌otherwise◌
-full_bars n l = sym (barred_is SUSPEND n l)
+unfolding bars
+full_bars n l = sym (barred_is _ _ n l)
 
 pub none_bars : (n : ℕ) (l : List Thread) → any (has_count n 0) l ≡ (each_unless RESUME n l).barred
-unfolding bars if◌then◌otherwise◌
-none_bars n l = sym (barred_is RESUME n l)
+unfolding bars
+none_bars n l = sym (barred_is _ _ n l)
+
+-- ---- The loop that nothing bars: m are the threads after the turn --------------------------------------
+
+module _ (f : Thread → Thread) (p : ℕ) (l₀ l : List Thread) (i : ℕ)
+    (inv : l ≡ map_to (changed_in f p) i l₀) where
+  one : {w : Thread} → w ≡ changed_in f p (get_or l i no_thread) → set l i w ≡ map_to (changed_in f p) (i + 1) l₀
+  one e = rw (e, inv) (map_to_next (changed_in f p) l₀ i no_thread)
+
+  pub one_changed : {m : List Thread} {x : Bool} {w : Thread} → x ≡ thread_of (get_or l i no_thread) p → x ≡ true →
+      w ≡ f (get_or l i no_thread) → m ≡ set l i w → m ≡ map_to (changed_in f p) (i + 1) l₀
+  unfolding changed_in if◌then◌otherwise◌
+  one_changed e h g q = q ∙ one (g ∙ rw (← e, h) refl)
+
+  pub one_kept : {m : List Thread} {x : Bool} → x ≡ thread_of (get_or l i no_thread) p → x ≡ false →
+      m ≡ set l i (get_or l i no_thread) → m ≡ map_to (changed_in f p) (i + 1) l₀
+  unfolding changed_in if◌then◌otherwise◌
+  one_kept e h q = q ∙ one (rw (← e, h) refl)

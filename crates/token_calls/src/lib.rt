@@ -13,21 +13,20 @@ use records::reading::{job_at, process_at, thread_at, token_at};
 use records::tables::Tables;
 use reply::Reply;
 use suspend_token::{Task, Token};
-use thread_lists::Each;
+use thread_lists::{Each, each_unless};
 
 // -- What a call gave, stored where the records were -------------------------------------------
 
 // Whether each thread of a process is to be changed.
+#[tactic(auto, using(laws::proofs::Flow::branches), unfolding(crate::specs::TokenCalls::of_each))]
 fn of_each(kind: u8, m: Task) -> bool
     ensures { result ≡ of_each kind m }
 {
-    if kind == Kind::PROCESS {
-        return m.each;
-    }
-    false
+    kind == Kind::PROCESS && m.each
 }
 
 // Of a process: these threads, where each is to be changed. Else the one thread.
+#[tactic(auto, using(laws::proofs::Flow::branches), unfolding(crate::specs::TokenCalls::changed_to))]
 fn changed_to(mut t: Tables, kind: u8, name: u8, threads: [Thread; 128], m: Task) -> Tables
     ensures { result ≡ changed_to t kind name threads m }
 {
@@ -35,23 +34,22 @@ fn changed_to(mut t: Tables, kind: u8, name: u8, threads: [Thread; 128], m: Task
         t.threads = threads;
         return t;
     }
-    let v = m.thread;
-    t.with_thread(name % 128, v)
+    t.with_thread(name % 128, m.thread)
 }
 
+#[tactic(auto, unfolding(crate::specs::TokenCalls::task_to))]
 fn task_to(t: Tables, kind: u8, name: u8, threads: [Thread; 128], m: Task) -> Reply
     ensures { result ≡ task_to t kind name threads m }
 {
     Reply::answered(changed_to(t, kind, name, threads, m), m.answer)
 }
 
+#[tactic(auto, unfolding(crate::specs::TokenCalls::token_to))]
 fn token_to(t: Tables, token: u8, kind: u8, name: u8, threads: [Thread; 128], m: Token) -> Reply
     ensures { result ≡ token_to t token kind name threads m }
 {
-    let task = m.task;
-    let k = m.token;
-    let u = changed_to(t, kind, name, threads, task);
-    Reply::answered(u.with_token(token % 64, k), task.answer)
+    let u = changed_to(t, kind, name, threads, m.task);
+    Reply::answered(u.with_token(token % 64, m.token), m.task.answer)
 }
 
 // -- Suspending and resuming -------------------------------------------------------------------
@@ -63,16 +61,9 @@ pub fn suspend(t: Tables, kind: u8, name: u8) -> Reply
     let v = thread_at(t, name % 128);
     let q = process_at(t, name % 64);
     let j = job_at(t, name % 32);
-    let threads = t.threads;
-    let done = thread_lists::each_unless(threads, name, Each::SUSPEND);
-    let after = done.threads;
-    task_to(
-        t,
-        kind,
-        name,
-        after,
-        suspend_token::suspend(kind, name, v, q, j, done.barred),
-    )
+    let done = each_unless(t.threads, name, Each::Suspend);
+    let m = suspend_token::suspend(kind, name, v, q, j, done.barred);
+    task_to(t, kind, name, done.threads, m)
 }
 
 // 1f: `Task::resume`.
@@ -82,16 +73,9 @@ pub fn resume(t: Tables, kind: u8, name: u8) -> Reply
     let v = thread_at(t, name % 128);
     let q = process_at(t, name % 64);
     let j = job_at(t, name % 32);
-    let threads = t.threads;
-    let done = thread_lists::each_unless(threads, name, Each::RESUME);
-    let after = done.threads;
-    task_to(
-        t,
-        kind,
-        name,
-        after,
-        suspend_token::resume(kind, name, v, q, j, done.barred),
-    )
+    let done = each_unless(t.threads, name, Each::Resume);
+    let m = suspend_token::resume(kind, name, v, q, j, done.barred);
+    task_to(t, kind, name, done.threads, m)
 }
 
 // -- Tokens --------------------------------------------------------------------------------------
@@ -104,11 +88,9 @@ pub fn create(t: Tables, new: u8, kind: u8, name: u8) -> Reply
     let v = thread_at(t, name % 128);
     let q = process_at(t, name % 64);
     let j = job_at(t, name % 32);
-    let threads = t.threads;
-    let done = thread_lists::each_unless(threads, name, Each::SUSPEND);
-    let after = done.threads;
+    let done = each_unless(t.threads, name, Each::Suspend);
     let m = suspend_token::create(new, kind, name, k, v, q, j, done.barred);
-    token_to(t, new, kind, name, after, m)
+    token_to(t, new, kind, name, done.threads, m)
 }
 
 // 0e: a token dropped.
@@ -117,9 +99,7 @@ pub fn drop(t: Tables, token: u8) -> Reply
 {
     let k = token_at(t, token % 64);
     let v = thread_at(t, k.name % 128);
-    let threads = t.threads;
-    let done = thread_lists::each_unless(threads, k.name, Each::RESUME);
-    let after = done.threads;
+    let done = each_unless(t.threads, k.name, Each::Resume);
     let m = suspend_token::drop(token, k, v, done.barred);
-    token_to(t, token, k.kind, k.name, after, m)
+    token_to(t, token, k.kind, k.name, done.threads, m)
 }

@@ -15,13 +15,13 @@ abbrev pub decreases-kill_job : goal.decreases-kill_job
 decreases-kill_job l = 2 * remaining l.t
 
 abbrev pub invariant-kill_job-loop-c : goal.invariant-kill_job-loop-c
-invariant-kill_job-loop-c l = Children l.initial.t l.j l.t l.c
+invariant-kill_job-loop-c l = Children l.initial.t l.j l.t l.child
 
 abbrev pub decreases-kill_job-loop-c : goal.decreases-kill_job-loop-c
-decreases-kill_job-loop-c l = 32 - l.c
+decreases-kill_job-loop-c l = 32 - l.child
 
 abbrev pub invariant-kill_job-loop-p : goal.invariant-kill_job-loop-p
-invariant-kill_job-loop-p l = Members l.initial.t l.j l.t l.p
+invariant-kill_job-loop-p l = Members l.initial.t l.j l.t l.member
 
 abbrev pub decreases-kill_job-loop-p : goal.decreases-kill_job-loop-p
-decreases-kill_job-loop-p l = 64 - l.p
+decreases-kill_job-loop-p l = 64 - l.member

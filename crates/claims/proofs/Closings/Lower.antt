@@ -1,6 +1,7 @@
 -- A closing leaves an exception at a lower place, or ends it: `closing`. Places stand in the order
 -- in which an exception goes through them (`height`); jobs have a rank r that falls from each to
 -- its parent. Assumes nothing.
+use Rattle.std.proofs.Common.{Option, Some, None}
 use Prim.Native.Nat.{ℕ, zero, suc, ◌<◌, ◌≤◌}
 use native.Mathlib.Omega.{arith}
 use mathlib.Core.Path.{◌≡◌, refl, sym, ap, ◌∙◌, subst}
@@ -16,7 +17,6 @@ use Rattle.record_exception.specs.declared.Place.TheVariants.{SecondChance, OfJo
 use Rattle.record_exception.specs.declared.Place.TheVariants.{Exiting}
 use Rattle.record_exception.specs.declared.Exception.{Exception}
 use Rattle.record_exception.specs.Exception.{exception_at}
-use Rattle.record_job.specs.declared.Parent.TheVariants.{ChildOf}
 use Rattle.record_job.specs.declared.Job.{Job}
 use Rattle.record_thread.specs.declared.Waiting.{Waiting}
 use Rattle.record_thread.specs.declared.Waiting.TheVariants.{InException}
@@ -26,10 +26,8 @@ use Rattle.records.specs.declared.tables.Tables.{Tables}
 use Rattle.reply.specs.declared.Reply.{Reply}
 use Rattle.reply.specs.Reply.{answered}
 use Rattle.records.specs.Tables.{job_at, thread_at, found_thread}
-use Rattle.model.specs.declared.Handler.{Handler}
-use Rattle.model.specs.declared.Handler.TheVariants.{Nobody, HandlerAt}
 use Rattle.model.specs.declared.Search.{Search}
-use Rattle.model.specs.Replies.{old_thread, thread, held_exception, exception}
+use Rattle.model.specs.Replies.{present, thread, held_exception, exception}
 use Rattle.model.specs.Exception.{pass_over, try_at, search_up, own_job, from_jobs}
 use Rattle.model.specs.Exception.{from_second_chance, from_process, from_thread, next_handler}
 use Rattle.model.specs.Exception.{over_tables, unhandled, deliver, close}
@@ -60,11 +58,11 @@ pub record Below (r : ℕ → ℕ) (m : ℕ) (p : Place) : Type 0 where
 
 -- what a search keeps, and what makes its places fall
 pub record Ready (r : ℕ → ℕ) (n : ℕ) (t : Tables) : Type 0 where
-  pub falls : (j i : ℕ) → (job_at t j).parent ≡ ChildOf i → r i < r j
+  pub falls : (j i : ℕ) → (job_at t j).parent ≡ Some i → r i < r j
   pub own : r (own_job t n) < 32
   pub made : (thread_at t n).made ≡ true
 
-handler_inj : {p q : Place} → HandlerAt p ≡ HandlerAt q → p ≡ q
+handler_inj : {p q : Place} → Some p ≡ Some q → p ≡ q
 handler_inj {p} {q} e = cc
 
 -- ---- The search after a closing ----------------------------------------------------------------
@@ -158,12 +156,12 @@ module _ (r : ℕ → ℕ) (n : ℕ) where
         if_on (WaitsAt Q n) _ _ _ (λ e. over_at t m)
         (λ e. runs Q n _ (over_at t m) _ (cascade_exit _ _ _))
 
-    deliver_at : (h : Handler) (t : Tables) (kind : ℕ) (second : Bool)
-        → (thread_at t n).made ≡ true → ((p : Place) → h ≡ HandlerAt p → Q p)
+    deliver_at : (h : Option Place) (t : Tables) (kind : ℕ) (second : Bool)
+        → (thread_at t n).made ≡ true → ((p : Place) → h ≡ Some p → Q p)
         → After (WaitsAt Q n) (deliver h t n kind second)
     unfolding deliver
-    deliver_at Nobody t kind second m f = reply_on _ _ _ (unhandled_at t kind m)
-    deliver_at (HandlerAt p) t kind second m f =
+    deliver_at None t kind second m f = reply_on _ _ _ (unhandled_at t kind m)
+    deliver_at (Some p) t kind second m f =
         reply_on _ _ _ (record {
           wait = rw (put_thread_made t n _ m) (at_held (exception_at kind p second) (f p refl));
         })
@@ -182,9 +180,9 @@ module _ (r : ℕ → ℕ) (n : ℕ) where
 
 module _ (t : Tables) (n : ℕ) where
   made_found : (thread_at t n).made ≡ true → thread t n ≡ found (thread_at t n)
-  unfolding old_thread found_thread
+  unfolding present found_thread
   made_found m =
-      if_on (λ x. old_thread x ≡ found (thread_at t n)) _ _ _ (λ e. refl) (λ e. no_both m e)
+      if_on (λ x. present x ≡ found (thread_at t n)) _ _ _ (λ e. refl) (λ e. no_both m e)
 
   held_found : (e : Exception) → (thread_at t n).waiting ≡ InException e
       → exception (thread_at t n) ≡ found e

@@ -1,5 +1,6 @@
 -- A call other than its closing leaves an exception where it is, or ends it: `WaitsAt` stays over every other call
 -- (`others`). Assumes nothing.
+use Rattle.std.proofs.Common.{Option, Some, None}
 use Prim.Native.Nat.{ℕ}
 use mathlib.Core.Path.{◌≡◌, sym, ap, ◌∙◌}
 use mathlib.Core.Bool.{Bool, false}
@@ -22,8 +23,6 @@ use Rattle.record_thread.specs.Thread.{is_free, end_wait}
 use Rattle.records.specs.declared.tables.Tables.{Tables}
 use Rattle.records.specs.Tables.{thread_at}
 use Rattle.records.specs.Tables.{put_thread}
-use Rattle.model.specs.declared.Handler.{Handler}
-use Rattle.model.specs.declared.Handler.TheVariants.{Nobody, HandlerAt}
 use Rattle.model.specs.declared.Search.{Search}
 use Rattle.model.specs.Replies.{thread, exception}
 use Rattle.model.specs.Job.{finish_thread}
@@ -89,11 +88,11 @@ module _ (Q : Place → Type 0) (n i : ℕ) (d : n ≡ i → ⊥) where
       if_on (WaitsAt Q n) _ _ _ (λ e. else_put t _ K)
       (λ e. runs Q n _ (else_put t _ K) _ (cascade_exit _ _ _))
 
-  deliver_else : (h : Handler) (t : Tables) (kind : ℕ) (second : Bool) → WaitsAt Q n t
+  deliver_else : (h : Option Place) (t : Tables) (kind : ℕ) (second : Bool) → WaitsAt Q n t
       → After (WaitsAt Q n) (deliver h t i kind second)
   unfolding deliver
-  deliver_else Nobody t kind second K = reply_on _ _ _ (unhandled_else t kind K)
-  deliver_else (HandlerAt p) t kind second K = reply_on _ _ _ (else_put t _ K)
+  deliver_else None t kind second K = reply_on _ _ _ (unhandled_else t kind K)
+  deliver_else (Some p) t kind second K = reply_on _ _ _ (else_put t _ K)
 
   module _ (t : Tables) (K : WaitsAt Q n t) where
     found_else : (s : Search) (kind : ℕ) (second : Bool) → Found (Passed t) Anywhere s

@@ -3,6 +3,8 @@
 -- from a job, a process or a thread that finishes. Claims on all calls go by these ways, not by
 -- the
 -- 31 calls. Assumes nothing.
+use Rattle.record_exception.specs.declared.Place.{Place}
+use Rattle.std.proofs.Common.{Option, Some, None}
 use Prim.Native.Nat.{ℕ, ◌<◌}
 use mathlib.Core.Path.{◌≡◌, refl, sym, ap, ◌∙◌}
 use mathlib.Core.Bool.{Bool, true, false}
@@ -20,8 +22,6 @@ use Rattle.record_thread.specs.Thread.{end_wait}
 use Rattle.records.specs.declared.tables.Tables.{Tables}
 use Rattle.records.specs.Tables.{job_at, process_at, thread_at, put_thread}
 use Rattle.records.specs.Owners.{put_level}
-use Rattle.model.specs.declared.Handler.{Handler}
-use Rattle.model.specs.declared.Handler.TheVariants.{Nobody, HandlerAt}
 use Rattle.model.specs.declared.Search.{Search}
 use Rattle.model.specs.Job.{kill_job, exit_process, finish_thread}
 use Rattle.model.specs.SuspendToken.{PROCESS, change_in, change_task}
@@ -103,13 +103,13 @@ module _ (t : Tables) (c : Call) where
       if_on (Does t c) _ _ _ (λ e. rests r)
       (λ e. exits (process_of w n) _ by_kill r (tree_over T n m d))
 
-  deliver_does : (h : Handler) (w : Tables) (n kind : ℕ) (second : Bool) → Tree w → Quiet t w
+  deliver_does : (h : Option Place) (w : Tables) (n kind : ℕ) (second : Bool) → Tree w → Quiet t w
       → (thread_at w n).made ≡ true → ((thread_at w n).state =? DEAD) ≡ false
       → After (Does t c) (deliver h w n kind second)
   unfolding deliver
-  deliver_does Nobody w n kind second T q m d =
+  deliver_does None w n kind second T q m d =
       reply_on _ _ _ (unhandled_does w n kind T q m d)
-  deliver_does (HandlerAt p) w n kind second T q m d =
+  deliver_does (Some p) w n kind second T q m d =
       reply_on _ _ _ (rests (quiet_both q (quiet_thread w n _ refl)))
 
   module _ (T : Tree t) (n : ℕ) (m : (thread_at t n).made ≡ true)

@@ -1,14 +1,14 @@
 -- The relation between two runs of one list of calls, the first with x's calls and the second
 -- without: record by record, whatever the name. It speaks of the records that the tables hold, and
 -- each record says by itself that the trips are closed. Assumes nothing.
+use Rattle.record_process.specs.Process.{critical_to}
+use Rattle.std.proofs.Common.{Some}
 use Prim.Native.Nat.{ℕ}
 use mathlib.Core.Path.{◌≡◌, refl, sym, ap}
 use mathlib.Core.Bool.{Bool, true, false}
 use Rattle.laws.proofs.Cases.{by, no_both}
 use Rattle.record_exception.specs.Channel.{is_bound}
-use Rattle.record_job.specs.declared.Parent.TheVariants.{ChildOf}
 use Rattle.record_job.specs.declared.Job.{Job}
-use Rattle.record_process.specs.declared.Critical.TheVariants.{To}
 use Rattle.record_process.specs.declared.Process.{Process}
 use Rattle.record_thread.specs.declared.Thread.{Thread}
 use Rattle.record_token.specs.declared.SuspendToken.{SuspendToken}
@@ -22,16 +22,16 @@ use Rattle.claims.proofs.Lengths.{lengths}
 -- what is below a trip's job is the trip's; a job is listed till it terminates, and that only once
 -- killed
 pub record JobFits (x y : Trip) (k : ℕ) (v : Job) : Type 0 where
-  pub below_x : (d : ℕ) → v.parent ≡ ChildOf d → x.jobs d ≡ true → x.jobs k ≡ true
-  pub below_y : (d : ℕ) → v.parent ≡ ChildOf d → y.jobs d ≡ true → y.jobs k ≡ true
+  pub below_x : (d : ℕ) → v.parent ≡ Some d → x.jobs d ≡ true → x.jobs k ≡ true
+  pub below_y : (d : ℕ) → v.parent ≡ Some d → y.jobs d ≡ true → y.jobs k ≡ true
   pub killed_first : v.terminated ≡ true → v.killed ≡ true
-  pub listed_till : (d : ℕ) → v.parent ≡ ChildOf d → v.terminated ≡ false → v.listed ≡ true
+  pub listed_till : (d : ℕ) → v.parent ≡ Some d → v.terminated ≡ false → v.listed ≡ true
 
 -- a process is of a trip if its job is, and of x if the job that it is bound to is
 pub record ProcessFits (x y : Trip) (p : ℕ) (q : Process) : Type 0 where
   pub of_x : q.made ≡ true → x.processes p ≡ x.jobs q.job
   pub of_y : q.made ≡ true → y.processes p ≡ y.jobs q.job
-  pub bound_x : (j : ℕ) (b : Bool) → q.critical ≡ To j b → x.jobs j ≡ x.processes p
+  pub bound_x : (j : ℕ) (b : Bool) → q.critical ≡ critical_to j b → x.jobs j ≡ x.processes p
   pub listed_made : q.listed ≡ true → q.made ≡ true
 
 -- a thread is of a trip if its process is
@@ -132,10 +132,10 @@ module _ {x y : Trip} (a : Apart x y) where
 
 -- a parent of a job outside a trip is outside it
 module _ {x y : Trip} {k : ℕ} {v : Job} (f : JobFits x y k v) where
-  pub up_not_x : (d : ℕ) → x.jobs k ≡ false → v.parent ≡ ChildOf d → x.jobs d ≡ false
+  pub up_not_x : (d : ℕ) → x.jobs k ≡ false → v.parent ≡ Some d → x.jobs d ≡ false
   up_not_x d h u = by (x.jobs d) (λ q. no_both (f.below_x d u q) h) (λ q. q)
 
-  pub up_not_y : (d : ℕ) → y.jobs k ≡ false → v.parent ≡ ChildOf d → y.jobs d ≡ false
+  pub up_not_y : (d : ℕ) → y.jobs k ≡ false → v.parent ≡ Some d → y.jobs d ≡ false
   up_not_y d h u = by (y.jobs d) (λ q. no_both (f.below_y d u q) h) (λ q. q)
 
 -- ---- What is known of x's records ------------------------------------------------------------

@@ -1,5 +1,6 @@
 -- A cascade that begins at a name of x, in one run: it changes x's records, and outside x and y
 -- only what the runs may differ in. Assumes nothing.
+use Rattle.std.proofs.Common.{Option, Some, None}
 use Prim.Native.Nat.{ℕ, zero, suc}
 use mathlib.Core.Path.{◌≡◌, refl, sym, ap, ◌∙◌}
 use mathlib.Core.Bool.{Bool, true, false}
@@ -7,15 +8,12 @@ use lib.IntN.{ℤ}
 use borrow.Author.Tests.{eqb-true}
 use Rattle.laws.specs.Choice.{◌=?◌}
 use Rattle.laws.proofs.Cases.{no_both, ite_on, if_on, and_left, and_right}
-use Rattle.record_job.specs.declared.Parent.{Parent}
-use Rattle.record_job.specs.declared.Parent.TheVariants.{Orphan, ChildOf}
 use Rattle.record_job.specs.declared.Job.{Job}
 use Rattle.record_job.specs.Job.{killed, terminated, is_parent, child_of}
 use Rattle.record_process.specs.declared.Critical.{Critical}
-use Rattle.record_process.specs.declared.Critical.TheVariants.{Free, To}
 use Rattle.record_process.specs.declared.Status.TheVariants.{Exited}
 use Rattle.record_process.specs.declared.Process.{Process}
-use Rattle.record_process.specs.Process.{KILL_CODE, with_status, ended, code_of, member_of}
+use Rattle.record_process.specs.Process.{critical_to, KILL_CODE, with_status, ended, code_of, member_of}
 use Rattle.records.specs.declared.tables.Tables.{Tables}
 use Rattle.records.specs.Tables.{job_at, process_at, put_job, put_process}
 use Rattle.model.specs.Job.{may_terminate, terminate_up, terminate_job, is_live_process}
@@ -33,11 +31,11 @@ use Rattle.claims.proofs.Separation.Stores.{stop_one}
 
 -- ---- What is on a list -----------------------------------------------------------------------
 
-is_parent_lem : (q : Parent) (j : ℕ) → is_parent q j ≡ true → q ≡ ChildOf j
-is_parent_lem Orphan j e = no_both e refl
-is_parent_lem (ChildOf p) j e = ap ChildOf (eqb-true p j e)
+is_parent_lem : (q : Option ℕ) (j : ℕ) → is_parent q j ≡ true → q ≡ Some j
+is_parent_lem None j e = no_both e refl
+is_parent_lem (Some p) j e = ap Some (eqb-true p j e)
 
-pub child_of_parent : (v : Job) (j : ℕ) → child_of v j ≡ true → v.parent ≡ ChildOf j
+pub child_of_parent : (v : Job) (j : ℕ) → child_of v j ≡ true → v.parent ≡ Some j
 unfolding child_of
 child_of_parent v j h = is_parent_lem v.parent j (and_right v.listed (is_parent v.parent j) h)
 
@@ -91,13 +89,13 @@ module _ {x y : Trip} {t : Tables} where
 
   module _ (K : Tables → ℕ → Tables)
       (k : (s : Tables) → Still x y t s → (j : ℕ) → x.jobs j ≡ true → Still x y t (K s j)) where
-    kill_bound_one : (b : Critical) (code : ℤ) (s : Tables) →
-        ((j : ℕ) (nonzero : Bool) → b ≡ To j nonzero → x.jobs j ≡ true) → Still x y t s →
+    kill_bound_one : (b : Option Critical) (code : ℤ) (s : Tables) →
+        ((j : ℕ) (nonzero : Bool) → b ≡ critical_to j nonzero → x.jobs j ≡ true) → Still x y t s →
         Still x y t (kill_bound K b code s)
     unfolding kill_bound
-    kill_bound_one Free code s h r = r
-    kill_bound_one (To j nonzero) code s h r =
-        ite_on (Still x y t) _ _ _ (λ e. k s r j (h j nonzero refl)) (λ e. r)
+    kill_bound_one None code s h r = r
+    kill_bound_one (Some b) code s h r =
+        ite_on (Still x y t) _ _ _ (λ e. k s r b.job (h b.job b.nonzero refl)) (λ e. r)
 
     pub end_step_one : (s : Tables) → Still x y t s → (p : ℕ) → x.processes p ≡ true →
         (process_at s p).made ≡ true → Still x y t (end_step K s p)

@@ -1,5 +1,7 @@
 -- A cascade that begins at a name outside x, in both runs: what it does to y is the same, and what
 -- it does to x's records one run at a time. Assumes nothing.
+use Rattle.std.proofs.Common.{Some}
+use Rattle.std.proofs.Common.{Option, None}
 use Prim.Native.Nat.{ℕ, zero, suc, ◌+◌, ◌<◌}
 use native.Mathlib.Omega.{arith}
 use mathlib.Core.Path.{◌≡◌, refl, sym, ap, ◌∙◌, subst}
@@ -10,10 +12,9 @@ use Rattle.laws.proofs.Flow.{no}
 use Rattle.record_job.specs.declared.Job.{Job}
 use Rattle.record_job.specs.Job.{killed, child_of}
 use Rattle.record_process.specs.declared.Critical.{Critical}
-use Rattle.record_process.specs.declared.Critical.TheVariants.{Free, To}
 use Rattle.record_process.specs.declared.Status.TheVariants.{Exited}
 use Rattle.record_process.specs.declared.Process.{Process}
-use Rattle.record_process.specs.Process.{KILL_CODE, with_status, code_of, acts, member_of}
+use Rattle.record_process.specs.Process.{critical_to, KILL_CODE, with_status, code_of, acts, member_of}
 use Rattle.records.specs.declared.tables.Tables.{Tables}
 use Rattle.records.specs.Tables.{job_at, process_at, put_job}
 use Rattle.model.specs.Job.{job_empty, lists_thread, terminate_job, up_to, is_live_job}
@@ -58,14 +59,14 @@ module _ {x y : Trip} where
       (k₂ : (s t : Tables) → Agree x y s t → (j : ℕ) → x.jobs j ≡ false →
       Agree x y (K s j) (K t j))
       (k₀ : (t : Tables) (j : ℕ) → (job_at t j).killed ≡ true → K t j ≡ t) where
-    kill_bound_two : (b : Critical) (code : ℤ) (s t : Tables) →
-        ((j : ℕ) (nonzero : Bool) → b ≡ To j nonzero → x.jobs j ≡ false) → Agree x y s t →
+    kill_bound_two : (b : Option Critical) (code : ℤ) (s t : Tables) →
+        ((j : ℕ) (nonzero : Bool) → b ≡ critical_to j nonzero → x.jobs j ≡ false) → Agree x y s t →
         Agree x y (kill_bound K b code s) (kill_bound K b code t)
     unfolding kill_bound
-    kill_bound_two Free code s t h r = r
-    kill_bound_two (To j nonzero) code s t h r =
-        ite_two (Agree x y) (acts nonzero code) (acts nonzero code) _ _ _ _ refl
-        (λ a b. k₂ s t r j (h j nonzero refl)) (λ a b. r)
+    kill_bound_two None code s t h r = r
+    kill_bound_two (Some b) code s t h r =
+        ite_two (Agree x y) (acts b.nonzero code) (acts b.nonzero code) _ _ _ _ refl
+        (λ e f. k₂ s t r b.job (h b.job b.nonzero refl)) (λ e f. r)
 
     pub end_step_two : (s t : Tables) → Agree x y s t → (p : ℕ) → x.processes p ≡ false →
         (process_at s p).made ≡ true → Agree x y (end_step K s p) (end_step K t p)

@@ -1,7 +1,9 @@
 -- The effects of calls that are more than one store of a found record: new records, bindings,
 -- policies, and a thread that finishes. Assumes nothing.
+use Rattle.record_process.specs.declared.Critical.{Critical}
+use Rattle.std.proofs.lemmas.Option.{same_Some}
 use Prim.Native.Nat.{ℕ, zero, suc}
-use mathlib.Core.Path.{◌≡◌, refl, ap, ap₂, ◌∙◌, subst}
+use mathlib.Core.Path.{◌≡◌, refl, sym, ap, ap₂, ◌∙◌, subst}
 use mathlib.Core.Bool.{Bool, true, false}
 use Rattle.laws.specs.Choice.{◌=?◌, if◌then◌otherwise◌}
 use Rattle.laws.proofs.Cases.{no_both, if_on, if_two, ite_two}
@@ -62,7 +64,7 @@ module _ {x y : Trip} where
       record {
         of_x = g.of_x;
         of_y = g.of_y;
-        bound_x = λ i c e. ap x.jobs (let q : i ≡ j = cc in q) ∙ f;
+        bound_x = λ i c e. ap x.jobs (sym (ap (λ (b : Critical). b.job) (same_Some _ _ e))) ∙ f;
         listed_made = g.listed_made;
       }
 

@@ -12,7 +12,7 @@ use Rattle.record_thread.specs.declared.Thread.{Thread}
 use Rattle.record_thread.specs.Thread.{DEAD, is_free}
 use Rattle.records.specs.declared.tables.Tables.{Tables}
 use Rattle.records.specs.Tables.{thread_at}
-use Rattle.model.specs.Replies.{old_level}
+use Rattle.model.specs.Replies.{present}
 use Rattle.model.specs.ThreadCalls.{finish_thread_call}
 use Rattle.model.specs.ExceptionCalls.{bind_level, hang_up_level, raise_exception}
 use Rattle.model.specs.ExceptionCalls.{close_exception, set_state, set_strategy}
@@ -102,7 +102,7 @@ module _ {x y : Trip} {s t : Tables} (r : Agree x y s t) where
   bind_level_two level n u =
       call_two s t _ _ r
       (guard_two refl λ a _. guard_two refl λ b _.
-      find_same (ap old_level (level_same r u a b)) λ l m. guard_two refl λ _ _.
+      find_same (ap present (level_same r u a b)) λ l m. guard_two refl λ _ _.
       guard_two refl λ _ _.
       accept_two _ _ (put_level_two r u a b Bound))
 
@@ -112,5 +112,5 @@ module _ {x y : Trip} {s t : Tables} (r : Agree x y s t) where
   hang_up_two level n u =
       call_two s t _ _ r
       (guard_two refl λ a _. guard_two refl λ b _.
-      find_same (ap old_level (level_same r u a b)) λ l m. guard_two refl λ _ _.
+      find_same (ap present (level_same r u a b)) λ l m. guard_two refl λ _ _.
       accept_two _ _ (put_level_two r u a b HungUp))

@@ -1,5 +1,6 @@
 -- What a search for a handler leaves: it writes levels only, so whose thread, process and job each
 -- is, and which jobs have terminated, stays. Assumes nothing.
+use Rattle.std.proofs.Common.{Some}
 use Prim.Native.Nat.{ℕ}
 use mathlib.Core.Path.{◌≡◌, refl, sym, ap, ◌∙◌}
 use mathlib.Core.Bool.{false}
@@ -7,7 +8,6 @@ use Rattle.record_exception.specs.declared.Place.{Place}
 use Rattle.record_exception.specs.declared.Place.TheVariants.{Debugger, OwnThread, OwnProcess}
 use Rattle.record_exception.specs.declared.Place.TheVariants.{SecondChance, OfJob, OfJobDebugger}
 use Rattle.record_exception.specs.declared.Place.TheVariants.{Exiting}
-use Rattle.record_job.specs.declared.Parent.TheVariants.{ChildOf}
 use Rattle.record_job.specs.declared.Job.{Job}
 use Rattle.record_process.specs.declared.Process.{Process}
 use Rattle.record_thread.specs.declared.Thread.{Thread}
@@ -80,5 +80,5 @@ module _ {t u : Tables} (f : Frame t u) where
   pub runs_frame : (j : ℕ) → RunsUp t j → RunsUp u j
   runs_frame j h d a = f.terminated d ∙ h d (above_frame d j a)
 
-pub runs_up : {t : Tables} {j i : ℕ} → (job_at t j).parent ≡ ChildOf i → RunsUp t j → RunsUp t i
+pub runs_up : {t : Tables} {j i : ℕ} → (job_at t j).parent ≡ Some i → RunsUp t j → RunsUp t i
 runs_up e h d a = h d (below e a)

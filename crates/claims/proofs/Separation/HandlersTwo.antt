@@ -1,5 +1,6 @@
 -- The order of handlers and what becomes of the thread, in both runs: one handler, one answer.
 -- Assumes nothing.
+use Rattle.std.proofs.Common.{Option, Some, None}
 use Prim.Native.Nat.{ℕ, zero, suc}
 use mathlib.Core.Path.{◌≡◌, refl, sym, ap, subst}
 use mathlib.Core.Bool.{Bool, false, not}
@@ -24,8 +25,6 @@ use Rattle.records.specs.Tables.{job_at, thread_at}
 use Rattle.model.specs.declared.Route.{Route}
 use Rattle.model.specs.declared.Route.TheVariants.{Ordinary, JobDebuggers, DebuggerOnly}
 use Rattle.model.specs.declared.Route.TheVariants.{ToExiting, NoType}
-use Rattle.model.specs.declared.Handler.{Handler}
-use Rattle.model.specs.declared.Handler.TheVariants.{Nobody, HandlerAt}
 use Rattle.model.specs.declared.Search.{Search}
 use Rattle.model.specs.Exception.{route_of, is_synth, process_of, owner_of, own_job, level_at}
 use Rattle.model.specs.Exception.{pass_over, try_at, search_up, from_jobs, from_second_chance}
@@ -179,11 +178,11 @@ module _ {x y : Trip} {n : ℕ} where
     owner_same (OfJobDebugger j) = refl
     owner_same Exiting = same_process_of b
 
-    deliver_two : (at : Handler) (kind : ℕ) (second : Bool) →
+    deliver_two : (at : Option Place) (kind : ℕ) (second : Bool) →
         Replied x y (deliver at s n kind second) (deliver at t n kind second)
     unfolding deliver reply
-    deliver_two Nobody kind second = record { shows = refl; rel = unhandled_two kind }
-    deliver_two (HandlerAt place) kind second =
+    deliver_two None kind second = record { shows = refl; rel = unhandled_two kind }
+    deliver_two (Some place) kind second =
         record {
           shows = ap (λ (i : ℕ). shown (reply t (pos (level_of place)) (OwnerField i)))
               (owner_same place);
@@ -213,7 +212,7 @@ module _ {x y : Trip} {n : ℕ} where
   delivered_two : (a c : Search) → Found x y n a c → (kind : ℕ) (second : Bool) →
       Replied x y (delivered a n kind second) (delivered c n kind second)
   delivered_two a c f kind second =
-      subst (λ (h : Handler). Replied x y (delivered a n kind second)
+      subst (λ (h : Option Place). Replied x y (delivered a n kind second)
       (deliver h c.tables n kind second))
       f.at (deliver_two a.tables c.tables f.rel a.at kind second)
 

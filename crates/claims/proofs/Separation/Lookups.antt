@@ -1,5 +1,6 @@
 -- Names and lookups: a name in its table that a call may use is the trip's, and two runs find the
 -- same outside x. Assumes nothing.
+use Rattle.std.proofs.Common.{Some, None}
 use Prim.Native.Nat.{ℕ}
 use mathlib.Core.Path.{◌≡◌, refl, sym, ap, ◌∙◌, subst}
 use mathlib.Core.Bool.{Bool, true, false}
@@ -13,12 +14,8 @@ use Rattle.record_process.specs.declared.Process.{Process}
 use Rattle.record_thread.specs.declared.Thread.{Thread}
 use Rattle.record_token.specs.declared.SuspendToken.{SuspendToken}
 use Rattle.records.specs.declared.tables.Tables.{Tables}
-use Rattle.record_job.specs.declared.FoundJob.TheVariants.{NoJob, OldJob}
-use Rattle.record_process.specs.declared.FoundProcess.TheVariants.{NoProcess, OldProcess}
-use Rattle.record_thread.specs.declared.FoundThread.TheVariants.{NoThread, OldThread}
-use Rattle.record_token.specs.declared.FoundToken.TheVariants.{NoToken, OldToken}
 use Rattle.records.specs.Tables.{found_job, found_process, found_thread, found_token}
-use Rattle.model.specs.Replies.{old_job, old_process, old_thread, old_token, job, process}
+use Rattle.model.specs.Replies.{present, job, process}
 use Rattle.model.specs.Replies.{thread, token}
 use Rattle.claims.specs.Separation.{Trip, Apart, task_of}
 use Rattle.claims.proofs.Found.{job_is, process_is, thread_is}
@@ -35,24 +32,24 @@ in_table false own e h = e
 module _ {x y : Trip} {s t : Tables} (r : Agree x y s t) where
   pub job_same : (j : ℕ) → y.jobs j ≡ true → job s j ≡ job t j
   unfolding found_job
-  job_same j h = ap (λ (v : Job). old_job (if v.made then OldJob v otherwise NoJob)) ((r.jobs j).same h)
+  job_same j h = ap (λ (v : Job). present (if v.made then Some v otherwise None)) ((r.jobs j).same h)
 
   pub process_same : (p : ℕ) → x.processes p ≡ false → process s p ≡ process t p
   unfolding found_process
   process_same p h =
-      ap (λ (v : Process). old_process (if v.made then OldProcess v otherwise NoProcess))
+      ap (λ (v : Process). present (if v.made then Some v otherwise None))
       ((r.processes p).same h)
 
   pub thread_same : (n : ℕ) → x.threads n ≡ false → thread s n ≡ thread t n
   unfolding found_thread
   thread_same n h =
-      ap (λ (v : Thread). old_thread (if v.made then OldThread v otherwise NoThread))
+      ap (λ (v : Thread). present (if v.made then Some v otherwise None))
       ((r.threads n).same h)
 
   pub token_same : (k : ℕ) → x.tokens k ≡ false → token s k ≡ token t k
   unfolding found_token
   token_same k h =
-      ap (λ (v : SuspendToken). old_token (if v.held then OldToken v otherwise NoToken))
+      ap (λ (v : SuspendToken). present (if v.held then Some v otherwise None))
       ((r.tokens k).same h)
 
   -- ---- A record that was found ----------------------------------------------------------------

@@ -1,5 +1,6 @@
 -- Calls whose operand depends on a number before it, a task of a kind or the owner of a level:
 -- whose they are, in one run and in both. Assumes nothing.
+use Rattle.std.proofs.Common.{Some, None}
 use Prim.Native.Nat.{ℕ}
 use mathlib.Core.Path.{◌≡◌, refl, sym, ap, ◌∙◌, subst}
 use mathlib.Core.Bool.{Bool, true, false}
@@ -14,13 +15,10 @@ use Rattle.record_process.specs.Process.{with_level1, with_level3}
 use Rattle.record_thread.specs.declared.Thread.{Thread}
 use Rattle.record_thread.specs.Thread.{no_thread, thread_of, with_level2}
 use Rattle.records.specs.declared.tables.Tables.{Tables}
-use Rattle.record_job.specs.declared.FoundJob.TheVariants.{NoJob, OldJob}
-use Rattle.record_process.specs.declared.FoundProcess.TheVariants.{NoProcess, OldProcess}
-use Rattle.record_thread.specs.declared.FoundThread.TheVariants.{NoThread, OldThread}
 use Rattle.records.specs.Tables.{job_at, process_at, thread_at, put_job, found_job, found_process}
 use Rattle.records.specs.Tables.{found_thread}
 use Rattle.records.specs.Owners.{owners_of, tasks_of, level_of_job, level_of_process, level_of_thread}
-use Rattle.records.specs.Owners.{found_level, put_level, made_job, made_process, made_thread, found_task}
+use Rattle.records.specs.Owners.{found_level, put_level, as_task, found_task}
 use Rattle.model.specs.SuspendToken.{some_at, change_task}
 use Rattle.model.specs.ExceptionCalls.{bad_level}
 use Rattle.claims.specs.Separation.{Trip, task_of, OwnTask, a_job, a_process, a_thread}
@@ -50,13 +48,13 @@ module _ {x y : Trip} {s t : Tables} (r : Agree x y s t) where
       found_task s kind n ≡ found_task t kind n
   unfolding tasks_of found_task found_job found_process found_thread if◌then◌otherwise◌
   task_same {n = n} (a_job o) b p =
-      ap (λ (v : Job). made_job (if v.made then OldJob v otherwise NoJob))
+      ap (λ (v : Job). as_task (if v.made then Some v otherwise None))
       ((r.jobs n).same (in_table (32 ≤? n) (y.jobs n) o p))
   task_same {n = n} (a_process o) b p =
-      ap (λ (v : Process). made_process (if v.made then OldProcess v otherwise NoProcess))
+      ap (λ (v : Process). as_task (if v.made then Some v otherwise None))
       ((r.processes n).same (r.apart.processes n (in_table (64 ≤? n) (y.processes n) o p)))
   task_same {n = n} (a_thread o) b p =
-      ap (λ (v : Thread). made_thread (if v.made then OldThread v otherwise NoThread))
+      ap (λ (v : Thread). as_task (if v.made then Some v otherwise None))
       ((r.threads n).same (r.apart.threads n (in_table (128 ≤? n) (y.threads n) o p)))
   task_same (no_kind e) b p = no_both e b
 
@@ -141,18 +139,18 @@ module _ {x y : Trip} {s t : Tables} (r : Agree x y s t) where
       owners_of level ≤? n ≡ false → found_level s level n ≡ found_level t level n
   unfolding owners_of found_level found_job found_process found_thread if◌then◌otherwise◌
   level_same {n = n} (level1 o) b p =
-      ap (λ (v : Process). level_of_process (if v.made then OldProcess v otherwise NoProcess) 1)
+      ap (λ (v : Process). level_of_process (if v.made then Some v otherwise None) 1)
       ((r.processes n).same (r.apart.processes n (in_table (64 ≤? n) (y.processes n) o p)))
   level_same {n = n} (level2 o) b p =
-      ap (λ (v : Thread). level_of_thread (if v.made then OldThread v otherwise NoThread))
+      ap (λ (v : Thread). level_of_thread (if v.made then Some v otherwise None))
       ((r.threads n).same (r.apart.threads n (in_table (128 ≤? n) (y.threads n) o p)))
   level_same {n = n} (level3 o) b p =
-      ap (λ (v : Process). level_of_process (if v.made then OldProcess v otherwise NoProcess) 3)
+      ap (λ (v : Process). level_of_process (if v.made then Some v otherwise None) 3)
       ((r.processes n).same (r.apart.processes n (in_table (64 ≤? n) (y.processes n) o p)))
   level_same {n = n} (level4 o) b p =
-      ap (λ (v : Job). level_of_job (if v.made then OldJob v otherwise NoJob) 4)
+      ap (λ (v : Job). level_of_job (if v.made then Some v otherwise None) 4)
       ((r.jobs n).same (in_table (32 ≤? n) (y.jobs n) o p))
   level_same {n = n} (level5 o) b p =
-      ap (λ (v : Job). level_of_job (if v.made then OldJob v otherwise NoJob) 5)
+      ap (λ (v : Job). level_of_job (if v.made then Some v otherwise None) 5)
       ((r.jobs n).same (in_table (32 ≤? n) (y.jobs n) o p))
   level_same (no_level e) b p = no_both e b

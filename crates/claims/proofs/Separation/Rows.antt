@@ -1,4 +1,5 @@
 -- The rows of `SeparationRows`, by computation. Assumes nothing.
+use Rattle.std.proofs.Common.{Option}
 use Prim.Native.Nat.{ℕ, zero, suc}
 use mathlib.Core.Path.{◌≡◌, refl, sym, ap, ◌∙◌, subst}
 use mathlib.Core.Bool.{Bool, true, false}
@@ -7,7 +8,6 @@ use lib.ListN.{replicate}
 use borrow.Author.Tests.{eqb-true, eq-eqb}
 use Rattle.laws.proofs.Cases.{no_both}
 use Rattle.laws.proofs.Counts.{none_at}
-use Rattle.record_job.specs.declared.Parent.{Parent}
 use Rattle.record_job.specs.declared.Job.{Job}
 use Rattle.record_job.specs.Job.{no_job, is_parent, child_of}
 use Rattle.record_process.specs.declared.Process.{Process}
@@ -47,8 +47,7 @@ use Rattle.model.specs.JobCalls.{exit_process_call, kill_process, set_critical_a
 use Rattle.model.specs.JobCalls.{process_info, process_information}
 use Rattle.model.specs.JobPolicy.{policy_of, bad_entry, set_each, policy_set, set_policy}
 use Rattle.model.specs.JobPolicy.{panics_at, is_denied}
-use Rattle.model.specs.Replies.{old_job, old_process, old_thread, old_token, held_exception}
-use Rattle.model.specs.Replies.{old_level, old_task}
+use Rattle.model.specs.Replies.{present, held_exception}
 use Rattle.model.specs.Step.{Call, cmd01, cmd03, cmd06, cmd07, cmd1b, Shown, step, answers}
 use Rattle.model.specs.Step.{final}
 use Rattle.model.specs.SuspendToken.{some_at, change_in, change_task, suspend_task, resume_task}
@@ -59,8 +58,8 @@ use Rattle.model.specs.ThreadCalls.{is_wait_state, wait_begun, begin_wait, wait_
 use Rattle.model.specs.ThreadCalls.{wait_polled, poll_wait, create_token_call, drop_token_call}
 use Rattle.model.specs.ThreadCalls.{suspend_call, resume_call}
 use Rattle.records.specs.Owners.{owners_of, process_level, job_level, level_of_thread, level_of_process}
-use Rattle.records.specs.Owners.{level_of_job, found_level, put_level, tasks_of, made_job, made_process}
-use Rattle.records.specs.Owners.{made_thread, found_task}
+use Rattle.records.specs.Owners.{level_of_job, found_level, put_level, tasks_of, as_task}
+use Rattle.records.specs.Owners.{found_task}
 use Rattle.reply.specs.Reply.{reply, answered}
 use Rattle.records.specs.Tables.{fresh_tables, job_at, own_at, inherited_at, process_at, fixed_at}
 use Rattle.records.specs.Tables.{thread_at, token_at, found_job, found_process, found_thread}
@@ -112,7 +111,7 @@ alone : (t : Tables) (k : ℕ) → any (λ (v : Job). is_parent v.parent k) t.jo
 unfolding job_at
 alone t k z j here = refl
 alone t k z j (below {p = p} e a) =
-    no_both (ap (λ (q : Parent). is_parent q k) e ∙ eq-eqb p k (alone t k z p a))
+    no_both (ap (λ (q : Option ℕ). is_parent q k) e ∙ eq-eqb p k (alone t k z p a))
     (none_at (λ (v : Job). is_parent v.parent k) no_job refl t.jobs j z)
 
 abbrev state : Tables
@@ -158,12 +157,12 @@ unfolding Run get_action apply merged_action merge larger generate_new ◌and◌
     kill_within exit_within with_child create_child kill_job_call set_policy_basic set_policy_timer_slack job_info
     job_information with_new_process create_process with_started start_process exit_process_call kill_process
     set_critical_at_job check_policy process_info process_information policy_of bad_entry set_each policy_set
-    set_policy panics_at is_denied old_job old_process old_thread old_token held_exception old_level old_task step
+    set_policy panics_at is_denied present held_exception step
     answers some_at change_in change_task suspend_task resume_task create_token drop_token create_thread start_thread
     kill_thread exit_thread finish_thread_call thread_info thread_information is_wait_state wait_begun begin_wait
     wait_answer wait_polled poll_wait create_token_call drop_token_call suspend_call resume_call owners_of
-    process_level job_level level_of_thread level_of_process level_of_job found_level put_level tasks_of made_job
-    made_process made_thread found_task child_of ended acts member_of hides shown_state is_live is_free thread_of kill
+    process_level job_level level_of_thread level_of_process level_of_job found_level put_level tasks_of as_task
+    found_task child_of ended acts member_of hides shown_state is_live is_free thread_of kill
     exit suspend resume end_wait reply answered fresh_tables job_at own_at inherited_at process_at fixed_at thread_at
     token_at found_job found_process found_thread found_token put_job put_own put_inherited put_process put_fixed
     put_thread put_token final of_second to_second calls
@@ -228,12 +227,12 @@ unfolding Run get_action apply merged_action merge larger generate_new ◌and◌
     kill_within exit_within with_child create_child kill_job_call set_policy_basic set_policy_timer_slack job_info
     job_information with_new_process create_process with_started start_process exit_process_call kill_process
     set_critical_at_job check_policy process_info process_information policy_of bad_entry set_each policy_set
-    set_policy panics_at is_denied old_job old_process old_thread old_token held_exception old_level old_task step
+    set_policy panics_at is_denied present held_exception step
     answers some_at change_in change_task suspend_task resume_task create_token drop_token create_thread start_thread
     kill_thread exit_thread finish_thread_call thread_info thread_information is_wait_state wait_begun begin_wait
     wait_answer wait_polled poll_wait create_token_call drop_token_call suspend_call resume_call owners_of
-    process_level job_level level_of_thread level_of_process level_of_job found_level put_level tasks_of made_job
-    made_process made_thread found_task child_of ended acts member_of hides shown_state is_live is_free thread_of kill
+    process_level job_level level_of_thread level_of_process level_of_job found_level put_level tasks_of as_task
+    found_task child_of ended acts member_of hides shown_state is_live is_free thread_of kill
     exit suspend resume end_wait reply answered fresh_tables job_at own_at inherited_at process_at fixed_at thread_at
     token_at found_job found_process found_thread found_token put_job put_own put_inherited put_process put_fixed
     put_thread put_token

@@ -1,13 +1,12 @@
 -- Tests that two runs answer alike: what a job of y lists, what a process outside x lists, and the
 -- one listing in which the runs may differ, that of a child killed in both. Assumes nothing.
+use Rattle.std.proofs.Common.{Option, Some}
 use Prim.Native.Nat.{ℕ, zero, suc}
 use mathlib.Core.Path.{◌≡◌, refl, sym, ap, ap₂, ◌∙◌}
 use mathlib.Core.Bool.{Bool, true, false}
 use Rattle.laws.specs.Choice.{◌and◌}
 use Rattle.laws.proofs.Cases.{by, no_both, and_right, and_true}
 use Rattle.laws.proofs.Flow.{no}
-use Rattle.record_job.specs.declared.Parent.{Parent}
-use Rattle.record_job.specs.declared.Parent.TheVariants.{ChildOf}
 use Rattle.record_job.specs.declared.Job.{Job}
 use Rattle.record_job.specs.Job.{is_parent, child_of}
 use Rattle.record_process.specs.declared.Process.{Process}
@@ -45,9 +44,9 @@ module _ {x y : Trip} {s t : Tables} (r : Agree x y s t) where
       let c : (job_at s i).parent ≡ (job_at t i).parent = (r.jobs i).parent h in
       let f : JobFits x y i (job_at t i) = (r.jobs i).fits₂ in
       let p : is_parent (job_at t i).parent j ≡ true =
-      ap (λ (q : Parent). is_parent q j) (sym c)
+      ap (λ (q : Option ℕ). is_parent q j) (sym c)
       ∙ and_right (job_at s i).listed (is_parent (job_at s i).parent j) a in
-      let u : (job_at t i).parent ≡ ChildOf j = sym c ∙ child_of_parent (job_at s i) j a in
+      let u : (job_at t i).parent ≡ Some j = sym c ∙ child_of_parent (job_at s i) j a in
       by (job_at t i).terminated (λ e. (r.jobs i).killed h ∙ f.killed_first e)
       (λ e. no_both (and_true (f.listed_till j u e) p) b)
 

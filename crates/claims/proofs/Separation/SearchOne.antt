@@ -1,5 +1,6 @@
 -- An exception of a thread of x, in one run: the search for a handler makes hung-up levels unbound
 -- outside y, and what becomes of the thread is x's own. Assumes nothing.
+use Rattle.std.proofs.Common.{Option, Some, None}
 use Prim.Native.Nat.{ℕ}
 use mathlib.Core.Path.{◌≡◌, ap, ◌∙◌}
 use mathlib.Core.Bool.{Bool, true, false}
@@ -16,8 +17,6 @@ use Rattle.records.specs.declared.tables.Tables.{Tables}
 use Rattle.reply.specs.declared.Reply.{Reply}
 use Rattle.reply.specs.Reply.{reply}
 use Rattle.records.specs.Tables.{job_at, put_job}
-use Rattle.model.specs.declared.Handler.{Handler}
-use Rattle.model.specs.declared.Handler.TheVariants.{Nobody, HandlerAt}
 use Rattle.model.specs.declared.Search.{Search}
 use Rattle.model.specs.Exception.{route_of, process_of, own_job, level_at, put_level_at, pass_over}
 use Rattle.model.specs.Exception.{over_tables, unhandled, deliver, delivered, raise_exiting}
@@ -142,11 +141,11 @@ module _ {x y : Trip} {t : Tables} where
         if_on (λ (z : Tables). Agree x y z t) _ _ _ (λ e. over_one w)
         (λ e. exit_process_one (over_one w) _ KILL_CODE w.process)
 
-    deliver_one : (at : Handler) (u : Tables) → Within x y t n u → (kind : ℕ) (second : Bool) →
+    deliver_one : (at : Option Place) (u : Tables) → Within x y t n u → (kind : ℕ) (second : Bool) →
         Left x y t (deliver at u n kind second)
     unfolding deliver reply
-    deliver_one Nobody u w kind second = record { tables = unhandled_one w kind }
-    deliver_one (HandlerAt place) u w kind second =
+    deliver_one None u w kind second = record { tables = unhandled_one w kind }
+    deliver_one (Some place) u w kind second =
         record {
           tables = thread_one w.rel n w.thread _
               (fits_waits _ (w.rel.threads n).fits₁ _ _);

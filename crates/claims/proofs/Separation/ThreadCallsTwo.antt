@@ -11,7 +11,7 @@ use Rattle.record_token.specs.SuspendToken.{drop}
 use Rattle.records.specs.declared.tables.Tables.{Tables}
 use Rattle.reply.specs.Reply.{reply}
 use Rattle.records.specs.Tables.{token_at, put_token}
-use Rattle.model.specs.Replies.{old_task}
+use Rattle.model.specs.Replies.{present}
 use Rattle.model.specs.ThreadCalls.{start_thread, kill_thread, exit_thread, thread_info}
 use Rattle.model.specs.ThreadCalls.{thread_information, wait_begun, begin_wait, is_pending}
 use Rattle.model.specs.ThreadCalls.{wait_polled, poll_wait, create_token_call, drop_token_call}
@@ -96,7 +96,7 @@ module _ {x y : Trip} {s t : Tables} (r : Agree x y s t) where
       (guard_two refl λ a _. guard_two refl λ b _. guard_two refl λ c _.
       let h : y.tokens new ≡ true = in_table _ _ o b in
       let g : x.tokens new ≡ false = r.apart.tokens new h in
-      find_same (ap old_task (task_same r u a c)) λ v m.
+      find_same (ap present (task_same r u a c)) λ v m.
       guard_two (ap (λ (w : SuspendToken). w.made) ((r.tokens new).same g)) λ _ _.
       guard_two refl λ e _.
       let k : IsTask kind × (task_of y kind n ≡ true) = own_task u a c e in
@@ -133,7 +133,7 @@ module _ {x y : Trip} {s t : Tables} (r : Agree x y s t) where
   suspend_two kind n u =
       call_two s t _ _ r
       (guard_two refl λ a _. guard_two refl λ b _.
-      find_same (ap old_task (task_same r u a b)) λ v m. guard_two refl λ c _.
+      find_same (ap present (task_same r u a b)) λ v m. guard_two refl λ c _.
       let k : IsTask kind × (task_of y kind n ≡ true) = own_task u a b c in
       guard_two (some_at_same r kind n _ k.0 (task_apart r.apart kind n k.1)) λ _ _.
       accept_two _ _ (change_task_two r suspend (λ i w f. fits_suspend w f) kind n))
@@ -144,7 +144,7 @@ module _ {x y : Trip} {s t : Tables} (r : Agree x y s t) where
   resume_two kind n u =
       call_two s t _ _ r
       (guard_two refl λ a _. guard_two refl λ b _.
-      find_same (ap old_task (task_same r u a b)) λ v m. guard_two refl λ c _.
+      find_same (ap present (task_same r u a b)) λ v m. guard_two refl λ c _.
       let k : IsTask kind × (task_of y kind n ≡ true) = own_task u a b c in
       guard_two (some_at_same r kind n _ k.0 (task_apart r.apart kind n k.1)) λ _ _.
       accept_two _ _ (change_task_two r resume (λ i w f. fits_resume w f) kind n))

@@ -1,12 +1,11 @@
 -- Terminations upward from a job outside x, in both runs: step by step alike within y, and one run
 -- at a time above it. Assumes nothing.
+use Rattle.std.proofs.Common.{Option, Some, None}
 use Prim.Native.Nat.{ℕ, zero, suc}
 use mathlib.Core.Path.{◌≡◌, refl, sym, ◌∙◌, subst}
 use mathlib.Core.Bool.{Bool, true, false}
 use Rattle.laws.specs.Choice.{if◌then◌otherwise◌, ite}
 use Rattle.laws.proofs.Cases.{by, ite_on, ite_two}
-use Rattle.record_job.specs.declared.Parent.{Parent}
-use Rattle.record_job.specs.declared.Parent.TheVariants.{Orphan, ChildOf}
 use Rattle.record_job.specs.Job.{terminated}
 use Rattle.record_process.specs.declared.Process.{Process}
 use Rattle.record_process.specs.Process.{ended}
@@ -22,20 +21,20 @@ use Rattle.claims.proofs.Separation.Same.{may_same}
 
 -- ---- Forms ---------------------------------------------------------------------------------
 
-pub on_parent_two {ℓ} : {A : Type 0} (R : A → A → Type ℓ) (p q : Parent) (a b : A) (k l : ℕ → A) →
-    p ≡ q → (p ≡ Orphan → q ≡ Orphan → R a b) →
-    ((d : ℕ) → p ≡ ChildOf d → q ≡ ChildOf d → R (k d) (l d)) → R (on_parent p a k) (on_parent q b l)
+pub on_parent_two {ℓ} : {A : Type 0} (R : A → A → Type ℓ) (p q : Option ℕ) (a b : A) (k l : ℕ → A) →
+    p ≡ q → (p ≡ None → q ≡ None → R a b) →
+    ((d : ℕ) → p ≡ Some d → q ≡ Some d → R (k d) (l d)) → R (on_parent p a k) (on_parent q b l)
 unfolding on_parent
 on_parent_two {A = A} R p q a b k l e =
-    subst (λ (o : Parent). (p ≡ Orphan → o ≡ Orphan → R a b) →
-    ((d : ℕ) → p ≡ ChildOf d → o ≡ ChildOf d → R (k d) (l d)) → R (on_parent p a k)
+    subst (λ (o : Option ℕ). (p ≡ None → o ≡ None → R a b) →
+    ((d : ℕ) → p ≡ Some d → o ≡ Some d → R (k d) (l d)) → R (on_parent p a k)
     (on_parent o b l)) e (same p)
   where
-    same : (o : Parent) → (o ≡ Orphan → o ≡ Orphan → R a b) →
-        ((d : ℕ) → o ≡ ChildOf d → o ≡ ChildOf d → R (k d) (l d)) → R (on_parent o a k)
+    same : (o : Option ℕ) → (o ≡ None → o ≡ None → R a b) →
+        ((d : ℕ) → o ≡ Some d → o ≡ Some d → R (k d) (l d)) → R (on_parent o a k)
         (on_parent o b l)
-    same Orphan f g = f refl refl
-    same (ChildOf d) f g = g d refl refl
+    same None f g = f refl refl
+    same (Some d) f g = g d refl refl
 
 if_ite : {A : Type 0} (b : Bool) (u v : A) → ite b (λ _. u) (λ _. v) ≡ (if b then u otherwise v)
 unfolding ite if◌then◌otherwise◌

@@ -1,14 +1,14 @@
 -- No trip meddles with another (demand 3): the relation holds at the start, every call of x keeps
 -- it in one run and every call of y in both, with the same answers. So it holds for whole lists.
 -- Assumes nothing.
+use Rattle.record_process.specs.Process.{critical_to}
+use Rattle.std.proofs.Common.{Some, None}
 use Prim.Native.Nat.{ℕ}
 use mathlib.Core.Path.{◌≡◌, refl, sym, ap, ap₂, ◌∙◌}
 use mathlib.Core.Bool.{Bool, true, false}
 use mathlib.Core.List.{List, [], ◌∷◌}
 use Rattle.laws.proofs.Cases.{by, no_both}
-use Rattle.record_job.specs.declared.Parent.TheVariants.{Orphan, ChildOf}
 use Rattle.record_job.specs.declared.Job.{Job}
-use Rattle.record_process.specs.declared.Critical.TheVariants.{Free, To}
 use Rattle.record_process.specs.declared.Process.{Process}
 use Rattle.record_thread.specs.declared.Thread.{Thread}
 use Rattle.records.specs.declared.tables.Tables.{Tables}
@@ -28,24 +28,24 @@ use Rattle.claims.proofs.Separation.StepTwo.{step_two}
 -- ---- The trips are closed ----------------------------------------------------------------------
 
 module _ {t : Tables} (T : Tree t) where
-  job_made : (k d : ℕ) → (job_at t k).parent ≡ ChildOf d → (job_at t k).made ≡ true
+  job_made : (k d : ℕ) → (job_at t k).parent ≡ Some d → (job_at t k).made ≡ true
   job_made k d u =
       by (job_at t k).made (λ m. m)
       (λ m.
-      let o : (job_at t k).parent ≡ Orphan = ap (λ (v : Job). v.parent) (T.job_unmade k m).0 in
+      let o : (job_at t k).parent ≡ None = ap (λ (v : Job). v.parent) (T.job_unmade k m).0 in
       let z : ◌≡◌ {A = Bool} true false = cc in no_both refl z)
 
-  process_made : (p j : ℕ) (b : Bool) → (process_at t p).critical ≡ To j b →
+  process_made : (p j : ℕ) (b : Bool) → (process_at t p).critical ≡ critical_to j b →
       (process_at t p).made ≡ true
   process_made p j b u =
       by (process_at t p).made (λ m. m)
       (λ m.
-      let o : (process_at t p).critical ≡ Free = ap (λ (q : Process). q.critical)
+      let o : (process_at t p).critical ≡ None = ap (λ (q : Process). q.critical)
       (T.process_unmade p m).0 in
       let z : ◌≡◌ {A = Bool} true false = cc in no_both refl z)
 
   -- below a trip's job all is the trip's
-  downward : (x : Trip) → IsTrip t x → (k d : ℕ) → (job_at t k).parent ≡ ChildOf d →
+  downward : (x : Trip) → IsTrip t x → (k d : ℕ) → (job_at t k).parent ≡ Some d →
       x.jobs d ≡ true →
       x.jobs k ≡ true
   downward x I k d u h =
@@ -61,7 +61,7 @@ module _ {t : Tables} (T : Tree t) where
           listed_till = T.job_listed k;
         }
 
-    bound : Inward t x → (p j : ℕ) (b : Bool) → (process_at t p).critical ≡ To j b →
+    bound : Inward t x → (p j : ℕ) (b : Bool) → (process_at t p).critical ≡ critical_to j b →
         x.jobs j ≡ x.processes p
     bound n p j b u =
         let m : (process_at t p).made ≡ true = process_made p j b u in

@@ -2,6 +2,7 @@
 -- ended
 -- since s has killed the job that it is bound to: but for jobs outside N and processes outside M,
 -- which a cascade is still at (`Closed`). What single steps leave of it. Assumes nothing.
+use Rattle.std.proofs.Common.{Some}
 use Prim.Native.Nat.{ℕ}
 use mathlib.Core.Path.{◌≡◌, refl, sym, ap, ◌∙◌}
 use mathlib.Core.Bool.{Bool, true, false}
@@ -9,13 +10,11 @@ use lib.IntN.{ℤ}
 use borrow.Author.Tests.{eqb-true, eqb-false}
 use Rattle.laws.specs.Choice.{◌=?◌}
 use Rattle.laws.proofs.Cases.{by, no_both, if_on}
-use Rattle.record_job.specs.declared.Parent.TheVariants.{ChildOf}
 use Rattle.record_job.specs.declared.Job.{Job}
 use Rattle.record_job.specs.Job.{killed}
-use Rattle.record_process.specs.declared.Critical.TheVariants.{To}
 use Rattle.record_process.specs.declared.Status.TheVariants.{Exited}
 use Rattle.record_process.specs.declared.Process.{Process}
-use Rattle.record_process.specs.Process.{is_exited, code_of, with_status, ended, acts}
+use Rattle.record_process.specs.Process.{critical_to, is_exited, code_of, with_status, ended, acts}
 use Rattle.records.specs.declared.tables.Tables.{Tables}
 use Rattle.records.specs.Tables.{job_at, process_at, put_job, put_process}
 use Rattle.model.specs.Job.{terminate_job, is_live_process, unlist_process}
@@ -28,12 +27,12 @@ use Rattle.claims.proofs.Tree.JobCalls.{unexited_alive}
 use Rattle.claims.proofs.Sound.Settle.{up_job, up_processes}
 
 pub record Closed (N M : ℕ → Type 0) (s t : Tables) : Type 0 where
-  pub below : (i p : ℕ) → N p → (job_at t i).parent ≡ ChildOf p → (job_at t p).killed ≡ true
+  pub below : (i p : ℕ) → N p → (job_at t i).parent ≡ Some p → (job_at t p).killed ≡ true
       → (job_at t i).killed ≡ true
   pub exited : (p : ℕ) → N (process_at t p).job → (process_at t p).made ≡ true
       → (job_at t (process_at t p).job).killed ≡ true → is_exited (process_at t p).status ≡ true
   pub tied : (p j : ℕ) (nonzero : Bool) → M p → (process_at s p).terminated ≡ false
-      → (process_at t p).terminated ≡ true → (process_at t p).critical ≡ To j nonzero
+      → (process_at t p).terminated ≡ true → (process_at t p).critical ≡ critical_to j nonzero
       → acts nonzero (code_of (process_at t p).status) ≡ true → (job_at t j).killed ≡ true
 
 -- all but one
@@ -54,14 +53,14 @@ module _ {N M : ℕ → Type 0} {s : Tables} where
 
   -- the last job is done
   pub close_job : (t : Tables) (j : ℕ)
-      → ((i : ℕ) → (job_at t i).parent ≡ ChildOf j → (job_at t i).killed ≡ true)
+      → ((i : ℕ) → (job_at t i).parent ≡ Some j → (job_at t i).killed ≡ true)
       → ((p : ℕ) → (process_at t p).made ≡ true → (process_at t p).job ≡ j
       → is_exited (process_at t p).status ≡ true)
       → Closed (but N j) M s t → Closed N M s t
   close_job t j a b K =
       record {
         below = λ i p n e k. by (p =? j)
-            (λ h. a i (e ∙ ap (λ (x : ℕ). ChildOf x) (eqb-true p j h)))
+            (λ h. a i (e ∙ ap (λ (x : ℕ). Some x) (eqb-true p j h)))
             (λ h. K.below i p (n, eqb-false p j h) e k);
         exited = λ p n m k. by ((process_at t p).job =? j)
             (λ h. b p m (eqb-true (process_at t p).job j h))
@@ -71,7 +70,7 @@ module _ {N M : ℕ → Type 0} {s : Tables} where
 
   -- the last process is done
   pub close_process : (t : Tables) (p : ℕ)
-      → ((j : ℕ) (nonzero : Bool) → (process_at t p).critical ≡ To j nonzero
+      → ((j : ℕ) (nonzero : Bool) → (process_at t p).critical ≡ critical_to j nonzero
       → acts nonzero (code_of (process_at t p).status) ≡ true → (job_at t j).killed ≡ true)
       → Closed N (but M p) s t → Closed N M s t
   close_process t p a K =

@@ -2,6 +2,9 @@
 -- live: a job's children and processes are all visited, so the job is closed when its loops are
 -- over; a process's bound job is killed, so the process is closed when it has ended. Assumes
 -- nothing.
+use Rattle.std.proofs.lemmas.Option.{none-some, same_Some}
+use Rattle.std.proofs.Common.{Some}
+use Rattle.std.proofs.Common.{Option, None}
 use Prim.Native.Nat.{ℕ, zero, suc, ◌<◌, ◌≤◌}
 use native.Mathlib.Nat.{le_refl, lt_of_le_of_lt}
 use native.Mathlib.Omega.{arith}
@@ -12,10 +15,9 @@ use Rattle.laws.proofs.Cases.{no_both, ite_on, if_on}
 use Rattle.record_job.specs.declared.Job.{Job}
 use Rattle.record_job.specs.Job.{killed}
 use Rattle.record_process.specs.declared.Critical.{Critical}
-use Rattle.record_process.specs.declared.Critical.TheVariants.{Free, To}
 use Rattle.record_process.specs.declared.Status.TheVariants.{Exited}
 use Rattle.record_process.specs.declared.Process.{Process}
-use Rattle.record_process.specs.Process.{is_exited, code_of, with_status, ended, acts}
+use Rattle.record_process.specs.Process.{critical_to, is_exited, code_of, with_status, ended, acts}
 use Rattle.records.specs.declared.tables.Tables.{Tables}
 use Rattle.records.specs.Tables.{job_at, process_at, put_job, put_process}
 use Rattle.model.specs.Job.{job_empty, lists_thread, stop_threads, up_to, kill_child, exit_member}
@@ -47,14 +49,14 @@ pub above_made : {t : Tables} {j i : ℕ} → Tree t → AtOrAbove t j i → (jo
 above_made T here m = m
 above_made T (below {i = i} {p = p} e r) m = above_made T r (T.parent_made i p e)
 
-free≢bound {ℓ} : {P : Type ℓ} {j : ℕ} {b : Bool} → Free ≡ To j b → P
-free≢bound {j = j} {b = b} e = absurd (let z : ◌≡◌ {A = ℕ} 0 1 = cc in omega arith)
+free≢bound {ℓ} : {P : Type ℓ} {j : ℕ} {b : Bool} → None ≡ critical_to j b → P
+free≢bound e = absurd (none-some _ e)
 
-bound_job : {i j : ℕ} {a b : Bool} → To i a ≡ To j b → i ≡ j
-bound_job {i} {j} {a} {b} e = cc
+bound_job : {i j : ℕ} {a b : Bool} → critical_to i a ≡ critical_to j b → i ≡ j
+bound_job e = ap (λ (b : Critical). b.job) (same_Some _ _ e)
 
-bound_flag : {i j : ℕ} {a b : Bool} → To i a ≡ To j b → a ≡ b
-bound_flag {i} {j} {a} {b} e = cc
+bound_flag : {i j : ℕ} {a b : Bool} → critical_to i a ≡ critical_to j b → a ≡ b
+bound_flag e = ap (λ (b : Critical). b.nonzero) (same_Some _ _ e)
 
 pub unlisted_else : (t : Tables) (p q : ℕ)
     → process_at (unlist_process t p) q ≡ process_at (put_process t p (ended (process_at t p))) q
@@ -91,13 +93,15 @@ module _ (m : ℕ) (kill : KillCloses m) (exit : ExitCloses m) where
 
   -- the bound job is killed, or the binding does not act
   kill_bound_closes : (N M : ℕ → Type 0) (s t : Tables) (p : ℕ) → Tree t → remaining t < m
-      → (process_at t p).made ≡ true → (b : Critical) (code : ℤ) → (process_at t p).critical ≡ b
+      → (process_at t p).made ≡ true → (b : Option Critical) (code : ℤ) → (process_at t p).critical ≡ b
       → code_of (process_at t p).status ≡ code → is_exited (process_at t p).status ≡ true
       → Closed N (but M p) s t → Closed N M s (kill_bound kill_job b code t)
   unfolding kill_bound
-  kill_bound_closes N M s t p T r l Free code e f g K =
+  kill_bound_closes N M s t p T r l None code e f g K =
       close_process t p (λ j z c. free≢bound (sym e ∙ c)) K
-  kill_bound_closes N M s t p T r l (To i z) code e f g K =
+  kill_bound_closes N M s t p T r l (Some b) code e f g K =
+      let i : ℕ = b.job in
+      let z : Bool = b.nonzero in
       ite_on (Closed N M s) (acts z code) _ _
       (λ a.
       let w : Tables = kill_job t i in

@@ -1,5 +1,6 @@
 -- A new job, process or thread keeps `Sound`: it stands below what is neither killed nor Exited. A
 -- new job's rank is the number of jobs made before it. Assumes nothing.
+use Rattle.std.proofs.Common.{Some}
 use Prim.Native.Nat.{ℕ, zero, suc, ◌<◌, ◌≤◌}
 use native.Mathlib.Nat.{le_refl}
 use native.Mathlib.Omega.{arith}
@@ -10,7 +11,6 @@ use lib.ListN.{length, get_or, set}
 use borrow.Author.Tests.{eqb-true, eqb-false, ne_eqb, eq-eqb}
 use Rattle.laws.specs.Choice.{◌=?◌, ◌and◌, if◌then◌otherwise◌}
 use Rattle.laws.proofs.Cases.{by, no_both}
-use Rattle.record_job.specs.declared.Parent.TheVariants.{ChildOf}
 use Rattle.record_job.specs.declared.Job.{Job}
 use Rattle.record_job.specs.Job.{no_job, new_job, child_of}
 use Rattle.record_process.specs.declared.Process.{Process}
@@ -57,7 +57,7 @@ made_jobs t = count (λ (v : Job). v.made) t.jobs
 
 -- ---- A job -----------------------------------------------------------------------------------
 
-child_same : {p q : ℕ} → ChildOf p ≡ ChildOf q → p ≡ q
+child_same : {p q : ℕ} → Some p ≡ Some q → p ≡ q
 child_same {p} {q} e = cc
 
 module _ (t : Tables) (S : Sound t) (j new : ℕ) (m : (job_at t j).made ≡ true)
@@ -99,8 +99,8 @@ module _ (t : Tables) (S : Sound t) (j new : ℕ) (m : (job_at t j).made ≡ tru
       refl
 
   -- who has a parent: the new job, or one that had it before
-  by_parent : {P : Type 0} (i p : ℕ) → (job_at u i).parent ≡ ChildOf p
-      → (i ≡ new → p ≡ j → P) → ((i ≡ new → ⊥) → (job_at t i).parent ≡ ChildOf p → P) → P
+  by_parent : {P : Type 0} (i p : ℕ) → (job_at u i).parent ≡ Some p
+      → (i ≡ new → p ≡ j → P) → ((i ≡ new → ⊥) → (job_at t i).parent ≡ Some p → P) → P
   by_parent i p e a b =
       by (i =? new)
       (λ c. let d : i ≡ new = eqb-true i new c in

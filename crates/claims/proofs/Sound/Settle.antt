@@ -1,6 +1,7 @@
 -- Terminations upward leave no killed job that lists nothing and has not terminated, but for those
 -- that there were: one step at a time, with ranks that fall from a job to its parent, so that 32
 -- steps are enough. Assumes nothing.
+use Rattle.std.proofs.Common.{Option, Some, None}
 use Prim.Native.Nat.{ℕ, zero, suc, ◌<◌}
 use native.Mathlib.Omega.{arith}
 use mathlib.Core.Path.{◌≡◌, refl, sym, ap, ap₂, ◌∙◌}
@@ -8,8 +9,6 @@ use mathlib.Core.Bool.{true, false}
 use borrow.Author.Tests.{eqb-true, eqb-false}
 use Rattle.laws.specs.Choice.{◌=?◌, ◌and◌}
 use Rattle.laws.proofs.Cases.{by, no_both, ite_on, and_false}
-use Rattle.record_job.specs.declared.Parent.{Parent}
-use Rattle.record_job.specs.declared.Parent.TheVariants.{Orphan, ChildOf}
 use Rattle.record_job.specs.declared.Job.{Job}
 use Rattle.record_job.specs.Job.{terminated, is_parent, child_of}
 use Rattle.record_process.specs.declared.Process.{Process}
@@ -49,21 +48,21 @@ may_by t u k a b c = ap₂ (λ x y. x and y) a (job_empty_same u t k b c)
 
 -- ---- One termination -------------------------------------------------------------------------
 
-child_same : {p q : ℕ} → ChildOf p ≡ ChildOf q → p ≡ q
+child_same : {p q : ℕ} → Some p ≡ Some q → p ≡ q
 child_same {p} {q} e = cc
 
-not_parent : (q : Parent) (k : ℕ) → (q ≡ ChildOf k → ⊥) → is_parent q k ≡ false
-not_parent Orphan k h = refl
-not_parent (ChildOf p) k h =
-    by (p =? k) (λ e. absurd (h (ap (λ (n : ℕ). ChildOf n) (eqb-true p k e)))) (λ e. e)
+not_parent : (q : Option ℕ) (k : ℕ) → (q ≡ Some k → ⊥) → is_parent q k ≡ false
+not_parent None k h = refl
+not_parent (Some p) k h =
+    by (p =? k) (λ e. absurd (h (ap (λ (n : ℕ). Some n) (eqb-true p k e)))) (λ e. e)
 
-not_child : (v : Job) (k : ℕ) → (v.parent ≡ ChildOf k → ⊥) → child_of v k ≡ false
+not_child : (v : Job) (k : ℕ) → (v.parent ≡ Some k → ⊥) → child_of v k ≡ false
 unfolding child_of
 not_child v k h = and_false v.listed (not_parent v.parent k h)
 
 -- it settles itself, and unsettles its parent alone
 others_settled : (t : Tables) (j : ℕ) → (job_at t j).made ≡ true → SettledBut j t → (k : ℕ)
-    → ((job_at t j).parent ≡ ChildOf k → ⊥)
+    → ((job_at t j).parent ≡ Some k → ⊥)
     → may_terminate (put_job t j (terminated (job_at t j))) k ≡ true
     → (job_at (put_job t j (terminated (job_at t j))) k).terminated ≡ true
 unfolding child_of ◌and◌
@@ -92,7 +91,7 @@ unfolding terminate_up Ranked
 up_settles r zero t j T l a e s = absurd (omega arith)
 up_settles r (suc n) t j T l a e s =
     let u : Tables = put_job t j (terminated (job_at t j)) in
-    let o : (k : ℕ) → ((job_at t j).parent ≡ ChildOf k → ⊥) → may_terminate u k ≡ true
+    let o : (k : ℕ) → ((job_at t j).parent ≡ Some k → ⊥) → may_terminate u k ≡ true
     → (job_at u k).terminated ≡ true =
     others_settled t j (killed_made T j (may_killed t j e)) s in
     on_parent_on Settled (job_at t j).parent _ _ (λ q k. o k (λ h. orphan≢child q h))

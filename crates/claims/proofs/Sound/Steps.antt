@@ -1,5 +1,7 @@
 -- Each step of a cascade keeps `Fit`, at any depth, and so does a thread that finishes. Assumes
 -- nothing.
+use Rattle.std.proofs.Common.{Some}
+use Rattle.std.proofs.Common.{Option, None}
 use Prim.Native.Nat.{ℕ, zero, suc}
 use mathlib.Core.Path.{◌≡◌, refl, sym, ap, ◌∙◌}
 use mathlib.Core.Bool.{true, false}
@@ -10,7 +12,6 @@ use Rattle.laws.proofs.Cases.{by, no_both, ite_on, if_on, and_false}
 use Rattle.record_job.specs.declared.Job.{Job}
 use Rattle.record_job.specs.Job.{killed, child_of}
 use Rattle.record_process.specs.declared.Critical.{Critical}
-use Rattle.record_process.specs.declared.Critical.TheVariants.{Free, To}
 use Rattle.record_process.specs.declared.Status.TheVariants.{Exited}
 use Rattle.record_process.specs.declared.Process.{Process}
 use Rattle.record_process.specs.Process.{KILL_CODE, with_status, member_of}
@@ -43,10 +44,10 @@ module _ (r : ℕ → ℕ) where
   -- ---- The steps of the cascade --------------------------------------------------------------
 
   module _ (K : Tables → ℕ → Tables) (k : (t : Tables) (j : ℕ) → Fit r t → Fit r (K t j)) where
-    kill_bound_fit : (b : Critical) (code : ℤ) (t : Tables) → Fit r t → Fit r (kill_bound K b code t)
+    kill_bound_fit : (b : Option Critical) (code : ℤ) (t : Tables) → Fit r t → Fit r (kill_bound K b code t)
     unfolding kill_bound
-    kill_bound_fit Free code t F = F
-    kill_bound_fit (To j nonzero) code t F = ite_on (Fit r) _ _ _ (λ e. k t j F) (λ e. F)
+    kill_bound_fit None code t F = F
+    kill_bound_fit (Some b) code t F = ite_on (Fit r) _ _ _ (λ e. k t b.job F) (λ e. F)
 
     end_step_fit : (t : Tables) (p : ℕ) → FitBut r p t → (process_at t p).made ≡ true
         → lists_thread t p ≡ false → Fit r (end_step K t p)

@@ -1,6 +1,7 @@
 -- The loops of a kill visit every child and every process of the job: after them each child is
 -- killed and each process Exited, if the cascade below a count leaves what it reached closed.
 -- Assumes nothing.
+use Rattle.std.proofs.Common.{Option, Some}
 use Prim.Native.Nat.{ℕ, zero, suc, ◌<◌}
 use native.Mathlib.Nat.{lt_of_le_of_lt}
 use native.Mathlib.Omega.{arith}
@@ -10,8 +11,6 @@ use lib.IntN.{ℤ}
 use borrow.Author.Tests.{eqb-true, eqb-false, eq-eqb}
 use Rattle.laws.specs.Choice.{◌=?◌}
 use Rattle.laws.proofs.Cases.{by, no_both, ite_on, and_true}
-use Rattle.record_job.specs.declared.Parent.{Parent}
-use Rattle.record_job.specs.declared.Parent.TheVariants.{ChildOf}
 use Rattle.record_job.specs.Job.{is_parent, child_of}
 use Rattle.record_process.specs.Process.{KILL_CODE, is_exited, member_of}
 use Rattle.records.specs.declared.tables.Tables.{Tables}
@@ -48,7 +47,7 @@ up_to_all P Q f keep new old (suc n) t x i h =
 
 -- children of job j
 abbrev pub KidKilled : ℕ → ℕ → Tables → Type 0
-KidKilled j c t = (job_at t c).parent ≡ ChildOf j → (job_at t c).killed ≡ true
+KidKilled j c t = (job_at t c).parent ≡ Some j → (job_at t c).killed ≡ true
 
 -- processes of job j
 abbrev pub ManExited : ℕ → ℕ → Tables → Type 0
@@ -62,7 +61,7 @@ module _ (t : Tables) (T : Tree t) (j : ℕ) where
   unlisted_kid c h e =
       by (job_at t c).terminated (T.terminated_killed c)
       (λ k. no_both (and_true (T.job_listed c j e k)
-      (ap (λ (q : Parent). is_parent q j) e ∙ eq-eqb j j refl)) h)
+      (ap (λ (q : Option ℕ). is_parent q j) e ∙ eq-eqb j j refl)) h)
 
   pub unlisted_man : (p : ℕ) → member_of (process_at t p) j ≡ false → ManExited j p t
   unfolding member_of

@@ -1,5 +1,6 @@
 -- The cascade keeps `Tree`: killing a job, exiting a process, and a thread that finishes. Between
 -- any two of its stores `Tree` holds, so this is an instance of `Keeps`. Assumes nothing.
+use Rattle.std.proofs.Common.{Option, Some}
 use Prim.Native.Nat.{ℕ}
 use mathlib.Core.Path.{◌≡◌, refl, ap, ◌∙◌, subst}
 use mathlib.Core.Bool.{true, false}
@@ -7,8 +8,6 @@ use lib.IntN.{ℤ}
 use borrow.Author.Tests.{eq-eqb}
 use Rattle.laws.specs.Choice.{◌and◌, if◌then◌otherwise◌}
 use Rattle.laws.proofs.Cases.{by, no_both, if_on, and_true}
-use Rattle.record_job.specs.declared.Parent.{Parent}
-use Rattle.record_job.specs.declared.Parent.TheVariants.{ChildOf}
 use Rattle.record_job.specs.declared.Job.{Job}
 use Rattle.record_job.specs.Job.{killed, terminated, is_parent, child_of}
 use Rattle.record_process.specs.declared.Status.TheVariants.{Exited}
@@ -50,10 +49,10 @@ module _ {t : Tables} (T : Tree t) where
 
   -- a job that lists nothing has no listed child and no listed process
   pub empty_no_child : (j i : ℕ) → may_terminate t j ≡ true → (job_at t i).listed ≡ true
-      → (job_at t i).parent ≡ ChildOf j → ⊥
+      → (job_at t i).parent ≡ Some j → ⊥
   unfolding child_of
   empty_no_child j i e l h =
-      no_both (and_true l (ap (λ (q : Parent). is_parent q j) h ∙ eq-eqb j j refl))
+      no_both (and_true l (ap (λ (q : Option ℕ). is_parent q j) h ∙ eq-eqb j j refl))
       (empty_child t j (may_empty t j e) i)
 
   pub empty_no_member : (j p : ℕ) → may_terminate t j ≡ true → (process_at t p).listed ≡ true

@@ -1,13 +1,14 @@
 -- What stores leave of the records that they do not write (`Kept`): a made name stays made, at its
 -- place. Along it a record's part of `Tree` goes from one state to the next. Assumes nothing.
+use Rattle.std.proofs.Common.{Option}
+use Rattle.std.proofs.lemmas.Option.{none-some}
+use Rattle.std.proofs.Common.{Some, None}
 use Prim.Native.Nat.{ℕ}
-use native.Mathlib.Omega.{arith}
 use mathlib.Core.Path.{◌≡◌, refl, sym, ap, ◌∙◌}
 use mathlib.Core.Bool.{true, false}
 use Rattle.laws.specs.Choice.{◌=?◌}
 use Rattle.laws.proofs.Cases.{by, no_both, if_on, if_two}
 use Rattle.job_policy.specs.declared.JobPolicy.{JobPolicy}
-use Rattle.record_job.specs.declared.Parent.TheVariants.{Orphan, ChildOf}
 use Rattle.record_job.specs.declared.Job.{Job}
 use Rattle.record_process.specs.declared.Process.{Process}
 use Rattle.record_thread.specs.declared.Waiting.{Waiting}
@@ -16,22 +17,21 @@ use Rattle.record_thread.specs.Thread.{is_waiting}
 use Rattle.record_token.specs.declared.SuspendToken.{SuspendToken}
 use Rattle.records.specs.declared.tables.Tables.{Tables}
 use Rattle.records.specs.Tables.{job_at, process_at, thread_at, found_job, found_process, found_thread}
-use Rattle.records.specs.declared.owners.FoundTask.TheVariants.{NoTask, OldTask}
-use Rattle.records.specs.Owners.{found_task, made_job, made_process, made_thread}
+use Rattle.records.specs.Owners.{found_task, as_task}
 use Rattle.claims.specs.Reachable.{AtOrAbove, here, below}
 use Rattle.claims.proofs.Tree.Parts.{GoodJob, GoodProcess, GoodThread, GoodToken}
 
 -- a made name stays made, at its place
 pub record Kept (t u : Tables) : Type 0 where
   pub job : (j : ℕ) → (job_at t j).made ≡ true → (job_at u j).made ≡ true
-  pub parent : (j p : ℕ) → (job_at t j).parent ≡ ChildOf p → (job_at u j).parent ≡ ChildOf p
-  pub root : (job_at t 0).parent ≡ Orphan → (job_at u 0).parent ≡ Orphan
+  pub parent : (j p : ℕ) → (job_at t j).parent ≡ Some p → (job_at u j).parent ≡ Some p
+  pub root : (job_at t 0).parent ≡ None → (job_at u 0).parent ≡ None
   pub process : (p : ℕ) → (process_at t p).made ≡ true → (process_at u p).made ≡ true
   pub home : (p : ℕ) → (process_at t p).made ≡ true → (process_at u p).job ≡ (process_at t p).job
   pub thread : (n : ℕ) → (thread_at t n).made ≡ true → (thread_at u n).made ≡ true
 
 pub above_over : {t u : Tables} {j i : ℕ}
-    → ((i p : ℕ) → (job_at t i).parent ≡ ChildOf p → (job_at u i).parent ≡ ChildOf p)
+    → ((i p : ℕ) → (job_at t i).parent ≡ Some p → (job_at u i).parent ≡ Some p)
     → AtOrAbove t j i → AtOrAbove u j i
 above_over m here = here
 above_over m (below {i = i} {p = p} e r) = below (m i p e) (above_over m r)
@@ -45,52 +45,49 @@ waiting_made {v = v} g e h =
     (g.unmade m)))
 
 -- a task that is found is made
-old_task_lem : {P : Type 0} → NoTask ≡ OldTask → P
-old_task_lem e = absurd (let z : ◌≡◌ {A = ℕ} 0 1 = cc in omega arith)
-
 module _ (t : Tables) (n : ℕ) where
-  pub found_job_lem : made_job (found_job t n) ≡ OldTask → (job_at t n).made ≡ true
-  unfolding found_job made_job
+  pub found_job_lem : as_task (found_job t n) ≡ Some tt → (job_at t n).made ≡ true
+  unfolding found_job as_task
   found_job_lem =
-      if_on (λ x. made_job x ≡ OldTask → (job_at t n).made ≡ true) _ _ _ (λ h e. h) (λ h. old_task_lem)
+      if_on (λ (x : Option Job). as_task x ≡ Some tt → (job_at t n).made ≡ true) _ _ _ (λ h e. h) (λ h e. absurd (none-some _ e))
 
-  pub found_process_lem : made_process (found_process t n) ≡ OldTask → (process_at t n).made ≡ true
-  unfolding found_process made_process
+  pub found_process_lem : as_task (found_process t n) ≡ Some tt → (process_at t n).made ≡ true
+  unfolding found_process as_task
   found_process_lem =
-      if_on (λ x. made_process x ≡ OldTask → (process_at t n).made ≡ true) _ _ _ (λ h e. h)
-      (λ h. old_task_lem)
+      if_on (λ (x : Option Process). as_task x ≡ Some tt → (process_at t n).made ≡ true) _ _ _ (λ h e. h)
+      (λ h e. absurd (none-some _ e))
 
-  pub found_thread_lem : made_thread (found_thread t n) ≡ OldTask → (thread_at t n).made ≡ true
-  unfolding found_thread made_thread
+  pub found_thread_lem : as_task (found_thread t n) ≡ Some tt → (thread_at t n).made ≡ true
+  unfolding found_thread as_task
   found_thread_lem =
-      if_on (λ x. made_thread x ≡ OldTask → (thread_at t n).made ≡ true) _ _ _ (λ h e. h)
-      (λ h. old_task_lem)
+      if_on (λ (x : Option Thread). as_task x ≡ Some tt → (thread_at t n).made ≡ true) _ _ _ (λ h e. h)
+      (λ h e. absurd (none-some _ e))
 
-  pub job_found : (job_at t n).made ≡ true → made_job (found_job t n) ≡ OldTask
-  unfolding found_job made_job
-  job_found m = if_on (λ x. made_job x ≡ OldTask) _ _ _ (λ h. refl) (λ h. no_both m h)
+  pub job_found : (job_at t n).made ≡ true → as_task (found_job t n) ≡ Some tt
+  unfolding found_job as_task
+  job_found m = if_on (λ (x : Option Job). as_task x ≡ Some tt) _ _ _ (λ h. refl) (λ h. no_both m h)
 
-  pub process_found : (process_at t n).made ≡ true → made_process (found_process t n) ≡ OldTask
-  unfolding found_process made_process
-  process_found m = if_on (λ x. made_process x ≡ OldTask) _ _ _ (λ h. refl) (λ h. no_both m h)
+  pub process_found : (process_at t n).made ≡ true → as_task (found_process t n) ≡ Some tt
+  unfolding found_process as_task
+  process_found m = if_on (λ (x : Option Process). as_task x ≡ Some tt) _ _ _ (λ h. refl) (λ h. no_both m h)
 
-  pub thread_found : (thread_at t n).made ≡ true → made_thread (found_thread t n) ≡ OldTask
-  unfolding found_thread made_thread
-  thread_found m = if_on (λ x. made_thread x ≡ OldTask) _ _ _ (λ h. refl) (λ h. no_both m h)
+  pub thread_found : (thread_at t n).made ≡ true → as_task (found_thread t n) ≡ Some tt
+  unfolding found_thread as_task
+  thread_found m = if_on (λ (x : Option Thread). as_task x ≡ Some tt) _ _ _ (λ h. refl) (λ h. no_both m h)
 
-pub found_task_over : {t u : Tables} → Kept t u → (kind n : ℕ) → found_task t kind n ≡ OldTask
-    → found_task u kind n ≡ OldTask
+pub found_task_over : {t u : Tables} → Kept t u → (kind n : ℕ) → found_task t kind n ≡ Some tt
+    → found_task u kind n ≡ Some tt
 unfolding found_task
 found_task_over {t} {u} k kind n =
-    if_two (λ x y. x ≡ OldTask → y ≡ OldTask) (kind =? 0) (kind =? 0) _ _ _ _ refl
+    if_two (λ x y. x ≡ Some tt → y ≡ Some tt) (kind =? 0) (kind =? 0) _ _ _ _ refl
     (λ a b e. job_found u n (k.job n (found_job_lem t n e)))
-    λ a b. if_two (λ x y. x ≡ OldTask → y ≡ OldTask) (kind =? 1) (kind =? 1) _ _ _ _ refl
+    λ a b. if_two (λ x y. x ≡ Some tt → y ≡ Some tt) (kind =? 1) (kind =? 1) _ _ _ _ refl
     (λ c d e. process_found u n (k.process n (found_process_lem t n e)))
     (λ c d e. thread_found u n (k.thread n (found_thread_lem t n e)))
 
 module _ {t u : Tables} (k : Kept t u) where
   pub job_over : {j : ℕ} {v : Job} {own inherited : JobPolicy}
-      → ((p : ℕ) → v.listed ≡ true → v.parent ≡ ChildOf p → (job_at t p).terminated ≡ false
+      → ((p : ℕ) → v.listed ≡ true → v.parent ≡ Some p → (job_at t p).terminated ≡ false
       → (job_at u p).terminated ≡ false)
       → GoodJob t j v own inherited → GoodJob u j v own inherited
   job_over alive g =

@@ -1,5 +1,6 @@
 -- `Tree` name by name: what it says of one job, one process, one thread and one token, so that a
 -- store answers for one record (`tree_of`). Assumes nothing.
+use Rattle.std.proofs.Common.{Some, None}
 use Prim.Native.Nat.{ℕ}
 use mathlib.Core.Path.{◌≡◌}
 use mathlib.Core.Bool.{Bool, true, false}
@@ -9,12 +10,10 @@ use Rattle.job_policy.specs.Policy.{no_policy}
 use Rattle.record_exception.specs.declared.Place.TheVariants.{OfJob, OfJobDebugger}
 use Rattle.record_exception.specs.declared.Exception.{Exception}
 use Rattle.record_exception.specs.Channel.{is_shut}
-use Rattle.record_job.specs.declared.Parent.TheVariants.{Orphan, ChildOf}
 use Rattle.record_job.specs.declared.Job.{Job}
 use Rattle.record_job.specs.Job.{no_job}
-use Rattle.record_process.specs.declared.Critical.TheVariants.{To}
 use Rattle.record_process.specs.declared.Process.{Process}
-use Rattle.record_process.specs.Process.{no_process, is_exited}
+use Rattle.record_process.specs.Process.{critical_to, no_process, is_exited}
 use Rattle.record_thread.specs.declared.Waiting.TheVariants.{NotWaiting, InException}
 use Rattle.record_thread.specs.declared.Thread.{Thread}
 use Rattle.record_thread.specs.Thread.{DEAD, no_thread}
@@ -22,7 +21,6 @@ use Rattle.record_token.specs.declared.SuspendToken.{SuspendToken}
 use Rattle.record_token.specs.SuspendToken.{no_token}
 use Rattle.records.specs.declared.tables.Tables.{Tables}
 use Rattle.records.specs.Tables.{job_at, own_at, inherited_at, process_at, fixed_at, thread_at, token_at}
-use Rattle.records.specs.declared.owners.FoundTask.TheVariants.{OldTask}
 use Rattle.records.specs.Owners.{found_task}
 use Rattle.records.specs.Tables.{Sized}
 use Rattle.claims.specs.Reachable.{AtOrAbove, Tree}
@@ -31,12 +29,12 @@ use Rattle.claims.specs.Reachable.{AtOrAbove, Tree}
 
 pub record GoodJob (t : Tables) (j : ℕ) (v : Job) (own inherited : JobPolicy) : Type 0 where
   pub unmade : v.made ≡ false → (v ≡ no_job) × (own ≡ no_policy) × (inherited ≡ no_policy)
-  pub orphan_root : v.made ≡ true → v.parent ≡ Orphan → j ≡ 0
-  pub parent_made : (p : ℕ) → v.parent ≡ ChildOf p → (job_at t p).made ≡ true
+  pub orphan_root : v.made ≡ true → v.parent ≡ None → j ≡ 0
+  pub parent_made : (p : ℕ) → v.parent ≡ Some p → (job_at t p).made ≡ true
   pub terminated_killed : v.terminated ≡ true → v.killed ≡ true
-  pub on_list : (p : ℕ) → v.parent ≡ ChildOf p → v.terminated ≡ false → v.listed ≡ true
+  pub on_list : (p : ℕ) → v.parent ≡ Some p → v.terminated ≡ false → v.listed ≡ true
   pub unlisted : v.listed ≡ true → v.terminated ≡ false
-  pub parent_alive : (p : ℕ) → v.listed ≡ true → v.parent ≡ ChildOf p
+  pub parent_alive : (p : ℕ) → v.listed ≡ true → v.parent ≡ Some p
       → (job_at t p).terminated ≡ false
   pub level4_shut : is_shut v.level4 ≡ v.terminated
   pub level5_shut : is_shut v.level5 ≡ v.terminated
@@ -48,7 +46,7 @@ pub record GoodProcess (t : Tables) (q : Process) (fixed : JobPolicy) : Type 0 w
   pub on_list : q.made ≡ true → q.terminated ≡ false → q.listed ≡ true
   pub unlisted : q.listed ≡ true → q.terminated ≡ false
   pub terminated_exited : q.terminated ≡ true → is_exited q.status ≡ true
-  pub bound_above : (j : ℕ) (b : Bool) → q.critical ≡ To j b → AtOrAbove t j q.job
+  pub bound_above : (j : ℕ) (b : Bool) → q.critical ≡ critical_to j b → AtOrAbove t j q.job
   pub level1_shut : is_shut q.level1 ≡ q.terminated
   pub level3_shut : is_shut q.level3 ≡ q.terminated
 
@@ -70,7 +68,7 @@ pub record GoodToken (t : Tables) (k : SuspendToken) : Type 0 where
   pub unmade : k.made ≡ false → k ≡ no_token
   pub held_made : k.held ≡ true → k.made ≡ true
   pub held_kind : k.held ≡ true → (k.kind =? 1) or (k.kind =? 2) ≡ true
-  pub task_made : k.held ≡ true → found_task t k.kind k.name ≡ OldTask
+  pub task_made : k.held ≡ true → found_task t k.kind k.name ≡ Some tt
 
 module _ {t : Tables} (T : Tree t) where
   pub good_job : (j : ℕ) → GoodJob t j (job_at t j) (own_at t j) (inherited_at t j)
@@ -125,7 +123,7 @@ module _ {t : Tables} (T : Tree t) where
         task_made = T.task_made k;
       }
 
-pub tree_of : (t : Tables) → Sized t → (job_at t 0).made ≡ true → (job_at t 0).parent ≡ Orphan
+pub tree_of : (t : Tables) → Sized t → (job_at t 0).made ≡ true → (job_at t 0).parent ≡ None
     → ((j : ℕ) → GoodJob t j (job_at t j) (own_at t j) (inherited_at t j))
     → ((p : ℕ) → GoodProcess t (process_at t p) (fixed_at t p))
     → ((n : ℕ) → GoodThread t (thread_at t n)) → ((k : ℕ) → GoodToken t (token_at t k)) → Tree t

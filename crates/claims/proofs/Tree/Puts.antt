@@ -1,5 +1,6 @@
 -- A store to each table keeps `Tree`, if the record that it writes has its part of it and keeps
 -- what other records need: a law a table. Assumes nothing.
+use Rattle.std.proofs.Common.{Option, Some, None}
 use Prim.Native.Nat.{ℕ}
 use native.Mathlib.Omega.{arith}
 use mathlib.Core.Path.{◌≡◌, refl, sym, ap, ◌∙◌, subst}
@@ -7,8 +8,6 @@ use mathlib.Core.Bool.{true, false}
 use mathlib.Core.List.{map}
 use Rattle.laws.proofs.Cases.{by, no_both}
 use Rattle.job_policy.specs.declared.JobPolicy.{JobPolicy}
-use Rattle.record_job.specs.declared.Parent.{Parent}
-use Rattle.record_job.specs.declared.Parent.TheVariants.{Orphan, ChildOf}
 use Rattle.record_job.specs.declared.Job.{Job}
 use Rattle.record_process.specs.declared.Process.{Process}
 use Rattle.record_thread.specs.declared.Thread.{Thread}
@@ -51,11 +50,11 @@ tree_over : {t u : Tables} → Tree t → Kept t u → lengths u ≡ lengths t
 tree_over {t} {u} T k e =
     tree_of u (sized_over t u e T.sized) (k.job 0 T.root_made) (k.root T.root_orphan)
 
-pub orphan≢child {ℓ} : {P : Type ℓ} {q : Parent} {p : ℕ} → q ≡ Orphan → q ≡ ChildOf p → P
+pub orphan≢child {ℓ} : {P : Type ℓ} {q : Option ℕ} {p : ℕ} → q ≡ None → q ≡ Some p → P
 orphan≢child {q = q} {p = p} a b = absurd (let z : ◌≡◌ {A = ℕ} 0 1 = cc in omega arith)
 
 -- a job with a parent is made
-pub child_made : {t : Tables} → Tree t → (j p : ℕ) → (job_at t j).parent ≡ ChildOf p
+pub child_made : {t : Tables} → Tree t → (j p : ℕ) → (job_at t j).parent ≡ Some p
     → (job_at t j).made ≡ true
 child_made {t} T j p e =
     by (job_at t j).made (λ m. m)
@@ -90,9 +89,9 @@ module _ (t : Tables) (T : Tree t) (j : ℕ) where
       record {
         job = λ i. on_job (λ w. (job_at t i).made ≡ true → w.made ≡ true) t j i v
             (λ e m. (keep (at i e m)).0) (λ m. m);
-        parent = λ i p. on_job (λ w. (job_at t i).parent ≡ ChildOf p → w.parent ≡ ChildOf p) t j i v
+        parent = λ i p. on_job (λ w. (job_at t i).parent ≡ Some p → w.parent ≡ Some p) t j i v
             (λ e h. up i e (child_made T i p h) ∙ h) (λ h. h);
-        root = λ h. on_job (λ w. w.parent ≡ Orphan) t j 0 v (λ e. up 0 e T.root_made ∙ h) h;
+        root = λ h. on_job (λ w. w.parent ≡ None) t j 0 v (λ e. up 0 e T.root_made ∙ h) h;
         process = λ p m. m;
         home = λ p m. refl;
         thread = λ n m. m;
@@ -101,7 +100,7 @@ module _ (t : Tables) (T : Tree t) (j : ℕ) where
   -- nothing on its list while it is terminated
   pub put_job_tree : (v : Job) → GoodJob t j v (own_at t j) (inherited_at t j)
       → ((job_at t j).made ≡ true → (v.made ≡ true) × (v.parent ≡ (job_at t j).parent))
-      → ((i : ℕ) → (job_at t i).listed ≡ true → (job_at t i).parent ≡ ChildOf j
+      → ((i : ℕ) → (job_at t i).listed ≡ true → (job_at t i).parent ≡ Some j
       → v.terminated ≡ false)
       → ((p : ℕ) → (process_at t p).listed ≡ true → (process_at t p).job ≡ j → v.terminated ≡ false)
       → Tree (put_job t j v)
@@ -115,7 +114,7 @@ module _ (t : Tables) (T : Tree t) (j : ℕ) where
       (λ i. on_job (λ w. GoodJob u i w (own_at t i) (inherited_at t i)) t j i v
       (λ e. subst (λ (n : ℕ). GoodJob u n v (own_at t n) (inherited_at t n)) (sym e)
       (job_over k (λ p l h. still p (λ c. g.unlisted l)) g))
-      (job_over k (λ p l h. still p (λ c. kids i l (h ∙ ap (λ (n : ℕ). ChildOf n) c)))
+      (job_over k (λ p l h. still p (λ c. kids i l (h ∙ ap (λ (n : ℕ). Some n) c)))
       (good_job T i)))
       (λ p. process_over k (λ l. still (process_at t p).job (members p l)) (good_process T p))
       (λ n. thread_over k (λ l h. h) (good_thread T n))

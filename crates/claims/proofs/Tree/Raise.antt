@@ -1,4 +1,5 @@
 -- Raising an exception and closing one keep `Tree`. Assumes nothing.
+use Rattle.std.proofs.Common.{Option, Some, None}
 use Prim.Native.Nat.{ℕ}
 use mathlib.Core.Path.{◌≡◌, refl, ap, ◌∙◌}
 use mathlib.Core.Bool.{Bool, true, false, not}
@@ -21,8 +22,6 @@ use Rattle.records.specs.declared.tables.Tables.{Tables}
 use Rattle.reply.specs.declared.Fields.{Fields}
 use Rattle.reply.specs.Reply.{reply}
 use Rattle.records.specs.Tables.{thread_at, put_thread}
-use Rattle.model.specs.declared.Handler.{Handler}
-use Rattle.model.specs.declared.Handler.TheVariants.{Nobody, HandlerAt}
 use Rattle.model.specs.declared.Search.{Search}
 use Rattle.model.specs.Exception.{process_of, first_handler, next_handler, over_tables}
 use Rattle.model.specs.Exception.{unhandled, deliver, delivered, raise_exiting, raise, close}
@@ -95,11 +94,11 @@ module _ {t : Tables} (T : Tree t) (n : ℕ) (m : (thread_at t n).made ≡ true)
   unhandled_tree kind =
       if_on Tree _ _ _ (λ e. tree_over) (λ e. tree_exit tree_over (process_of t n) _)
 
-  deliver_tree : (h : Handler) (kind : ℕ) (second : Bool)
-      → ((p : Place) → h ≡ HandlerAt p → AboveOwn t n p) → After Tree (deliver h t n kind second)
+  deliver_tree : (h : Option Place) (kind : ℕ) (second : Bool)
+      → ((p : Place) → h ≡ Some p → AboveOwn t n p) → After Tree (deliver h t n kind second)
   unfolding deliver
-  deliver_tree Nobody kind second a = reply_on _ _ _ (unhandled_tree kind)
-  deliver_tree (HandlerAt p) kind second a =
+  deliver_tree None kind second a = reply_on _ _ _ (unhandled_tree kind)
+  deliver_tree (Some p) kind second a =
       let x : AboveOwn t n p = a p refl in
       reply_on _ _ _ (tree_waits BLOCKED_EXCEPTION _ refl
       (placed_at (exception_at kind p second) x.handler x.debugger))

@@ -1,5 +1,9 @@
 -- What each change of a record leaves of its part of `Tree`: the changes of jobs, processes and
 -- threads, one law each. Assumes nothing.
+use Rattle.record_process.specs.declared.Critical.{Critical}
+use Rattle.std.proofs.lemmas.Option.{none-some, same_Some}
+use Rattle.std.proofs.Common.{None}
+use Rattle.std.proofs.Common.{Some}
 use Prim.Native.Nat.{ℕ}
 use native.Mathlib.Omega.{arith}
 use mathlib.Core.Path.{◌≡◌, refl, ap, ◌∙◌, subst}
@@ -10,14 +14,12 @@ use Rattle.job_policy.specs.declared.TimerSlack.{TimerSlack}
 use Rattle.record_exception.specs.declared.Level.{Level}
 use Rattle.record_exception.specs.declared.Level.TheVariants.{Unbound}
 use Rattle.record_exception.specs.Channel.{is_shut}
-use Rattle.record_job.specs.declared.Parent.TheVariants.{ChildOf}
 use Rattle.record_job.specs.declared.Job.{Job}
 use Rattle.record_job.specs.Job.{no_job, new_job, killed, terminated, with_slack, with_level4}
 use Rattle.record_job.specs.Job.{with_level5}
 use Rattle.record_process.specs.declared.Status.{Status}
-use Rattle.record_process.specs.declared.Critical.TheVariants.{Free, To}
 use Rattle.record_process.specs.declared.Process.{Process}
-use Rattle.record_process.specs.Process.{no_process, new_process, is_exited, with_status, ended}
+use Rattle.record_process.specs.Process.{critical_to, no_process, new_process, is_exited, with_status, ended}
 use Rattle.record_process.specs.Process.{bind_to, with_level1, with_level3}
 use Rattle.records.specs.declared.tables.Tables.{Tables}
 use Rattle.records.specs.Tables.{job_at}
@@ -26,7 +28,7 @@ use Rattle.claims.proofs.Tree.Parts.{GoodJob, GoodProcess}
 
 -- ---- Jobs ------------------------------------------------------------------------------------
 
-child_inj : {p q : ℕ} → ChildOf p ≡ ChildOf q → p ≡ q
+child_inj : {p q : ℕ} → Some p ≡ Some q → p ≡ q
 child_inj {p} {q} e = cc
 
 module _ {t : Tables} {own inherited : JobPolicy} where
@@ -128,11 +130,11 @@ module _ {t : Tables} {own inherited : JobPolicy} where
 
 -- ---- Processes -------------------------------------------------------------------------------
 
-free≢bound {ℓ} : {P : Type ℓ} {j : ℕ} {b : Bool} → Free ≡ To j b → P
-free≢bound {j = j} {b = b} e = absurd (let z : ◌≡◌ {A = ℕ} 0 1 = cc in omega arith)
+free≢bound {ℓ} : {P : Type ℓ} {j : ℕ} {b : Bool} → None ≡ critical_to j b → P
+free≢bound e = absurd (none-some _ e)
 
-bound_inj : {i j : ℕ} {a b : Bool} → To i a ≡ To j b → i ≡ j
-bound_inj {i} {j} {a} {b} e = cc
+bound_inj : {i j : ℕ} {a b : Bool} → critical_to i a ≡ critical_to j b → i ≡ j
+bound_inj e = ap (λ (b : Critical). b.job) (same_Some _ _ e)
 
 module _ {t : Tables} {fixed : JobPolicy} where
   pub new_process_good : (j : ℕ) → (job_at t j).made ≡ true → (job_at t j).terminated ≡ false

@@ -1,5 +1,6 @@
 -- A search for a handler keeps `Tree`, and all but the levels of jobs, processes and threads
 -- (`Passed`); a handler of a job that it finds is at or above the thread's own. Assumes nothing.
+use Rattle.std.proofs.Common.{Some}
 use Prim.Native.Nat.{ℕ, ◌<◌}
 use native.Mathlib.Omega.{arith}
 use mathlib.Core.Path.{◌≡◌, refl, sym, ap, ◌∙◌, subst}
@@ -12,7 +13,6 @@ use Rattle.record_exception.specs.declared.Place.TheVariants.{SecondChance, OfJo
 use Rattle.record_exception.specs.declared.Place.TheVariants.{Exiting}
 use Rattle.record_exception.specs.Channel.{is_shut, tried}
 use Rattle.record_exception.specs.Exception.{level_of}
-use Rattle.record_job.specs.declared.Parent.TheVariants.{ChildOf}
 use Rattle.record_job.specs.declared.Job.{Job}
 use Rattle.record_job.specs.Job.{with_level4, with_level5}
 use Rattle.record_process.specs.declared.Process.{Process}
@@ -207,7 +207,7 @@ module _ (t : Tables) (n : ℕ) where
       }
 
   -- a parent of a job at or above the own job is above it too
-  up : {u : Tables} → Searched t u → (j i : ℕ) → (job_at u j).parent ≡ ChildOf i
+  up : {u : Tables} → Searched t u → (j i : ℕ) → (job_at u j).parent ≡ Some i
       → AtOrAbove t j (own_job t n) → AtOrAbove t i (own_job t n)
   up s j i e a =
       above_both (below (sym (ap (λ (v : Job). v.parent) (s.passed.jobs j)) ∙ e) here) a

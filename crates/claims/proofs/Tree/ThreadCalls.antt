@@ -1,4 +1,5 @@
 -- The calls on threads, their waits and suspend tokens keep `Tree`. Assumes nothing.
+use Rattle.std.proofs.Common.{Some}
 use Prim.Native.Nat.{ℕ}
 use native.Mathlib.Omega.{arith}
 use mathlib.Core.Path.{◌≡◌, refl, sym, ap, ◌∙◌, subst}
@@ -20,7 +21,6 @@ use Rattle.record_token.specs.declared.SuspendToken.{SuspendToken}
 use Rattle.record_token.specs.SuspendToken.{new_token, drop}
 use Rattle.records.specs.declared.tables.Tables.{Tables}
 use Rattle.records.specs.Tables.{job_at, process_at, thread_at, token_at, put_thread, with_threads}
-use Rattle.records.specs.declared.owners.FoundTask.TheVariants.{OldTask}
 use Rattle.records.specs.Owners.{found_task}
 use Rattle.model.specs.Replies.{thread}
 use Rattle.model.specs.SuspendToken.{PROCESS, change_in, change_task, suspend_task, resume_task}
@@ -194,19 +194,19 @@ module _ {t : Tables} (T : Tree t) (f : Thread → Thread) (fm : (v : Thread) �
 
 module _ {t : Tables} (T : Tree t) where
   -- a task that is found, and neither a job nor a process, is a made thread
-  task_thread : (kind n : ℕ) → (kind =? 0) ≡ false → found_task t kind n ≡ OldTask
+  task_thread : (kind n : ℕ) → (kind =? 0) ≡ false → found_task t kind n ≡ Some tt
       → (kind =? 1) ≡ false → (thread_at t n).made ≡ true
   unfolding found_task if◌then◌otherwise◌
   task_thread kind n a e b = found_thread_lem t n (rw (a, b) at e)
 
-  suspend_tree : (kind n : ℕ) → (kind =? 0) ≡ false → found_task t kind n ≡ OldTask
+  suspend_tree : (kind n : ℕ) → (kind =? 0) ≡ false → found_task t kind n ≡ Some tt
       → Tree (suspend_task t kind n)
   unfolding suspend_task
   suspend_tree kind n a e =
       change_task_tree T suspend suspend_made (λ v h m. suspend_good h m) kind n
       (task_thread kind n a e)
 
-  resume_tree : (kind n : ℕ) → (kind =? 0) ≡ false → found_task t kind n ≡ OldTask
+  resume_tree : (kind n : ℕ) → (kind =? 0) ≡ false → found_task t kind n ≡ Some tt
       → Tree (resume_task t kind n)
   unfolding resume_task
   resume_tree kind n a e =
@@ -226,7 +226,7 @@ module _ {t : Tables} (T : Tree t) where
   create_token_call_tree new kind n =
       call_on t _ T (guard_on λ a. guard_on λ b. guard_on λ c. find_on λ v e. guard_on λ d.
       guard_on λ h. guard_on λ i.
-      let f : found_task t kind n ≡ OldTask = task_is t n kind v e in
+      let f : found_task t kind n ≡ Some tt = task_is t n kind v e in
       let k : Kept t (suspend_task t kind n) =
       change_task_kept T suspend suspend_made (λ v h m. suspend_good h m) kind n in
       accept_on _ (put_token_tree _ (suspend_tree kind n h f) new (new_token kind n)

@@ -1,9 +1,6 @@
--- `at` stays within the list. The measure is what is left of the list.
-use Rattle.std.proofs.Common.{length, ◌-◌, ◌≤◌}
+-- The measure is what is left of the list.
+use Rattle.std.proofs.Common.{length}
 use Rattle.dumplists.proofs.feed_list.Given as goal
 
-abbrev pub invariant-loop-at : goal.invariant-loop-at
-invariant-loop-at g l = l.at ≤ length l.list
-
-abbrev pub decreases-loop-at : goal.decreases-loop-at
-decreases-loop-at g l = length l.list - l.at
+abbrev pub decreases-loop-out : goal.decreases-loop-out
+decreases-loop-out g l = length l.rest

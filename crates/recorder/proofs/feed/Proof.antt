@@ -27,9 +27,9 @@ use Rattle.calls.specs.Calls.{Called, no_call, perform}
 use Rattle.calls.specs.Groups.{call_of, job_call}
 use Rattle.calls.proofs.Whole.{IsCall, is_call, whole_called, call_in_lem}
 use Rattle.model.specs.Step.{step}
-use Rattle.job.specs.Job as jobs
+use Rattle.calls.specs.Made as jobs
 use Rattle.process.specs.Process as processes
-use Rattle.thread.specs.Pair.{both_moved}
+use Rattle.calls.specs.Groups.{both_moved}
 use Rattle.lines.specs.Line.{line_of, within, Put}
 use Rattle.lines.proofs.Puts.{roomy}
 use Rattle.stream_state.specs.State.{state_of}
@@ -392,7 +392,7 @@ loop_again_12 c =
     refl) c.each_of.ensures c.each_unless-u.ensures)
     (token_sized (threads_sized z _ (search (
       length_mapped,
-      c.each_unless-u.type_inv.1.1.1.1.0,
+      c.each_unless-u.type_inv.1.1.1.0,
     ))) _ _)
     (sym (to_z-of_z {w = w64} (search (
       rules,
@@ -496,14 +496,14 @@ loop_again_17 c =
     let t = k.loop-out.t in
     let u = c.put_answer-written-in-CreateProcess in
     turn k c.in-CreateProcess.is
-    (c.create_with_ext-m.ensures t (arms.read_job z
+    (c.create_with_ext-made.ensures t (arms.read_job z
     _ _) (arms.read_own z _ _) (arms.read_inherited z _ _) (arms.read_process z _ _) (arms.read_fixed z _
     _))
     (fixed_sized (process_sized z _ _) _ _)
     (sym (to_z-of_z {w = w64} (search (
       rules,
-      c.create_with_ext-m.type_inv,
-    )))) refl refl u.ensures.0 u.ensures.1 u.auto.out
+      c.answer_of.type_inv,
+    )) ∙ c.answer_of.ensures)) refl refl u.ensures.0 u.ensures.1 u.auto.out
 
 pub feed_spec : {M : Type 1} → statement M
 feed_spec =
@@ -852,6 +852,7 @@ feed_spec =
     (λ c. search rules)
     (λ c. search rules)
     (λ c. search rules)
+    (λ c κs. tt)
     (λ c κs. tt)
     (λ c.
     let a = c.args in

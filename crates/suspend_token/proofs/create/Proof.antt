@@ -35,8 +35,9 @@ module _ (c : tie.After-some_at) {x : Reply} (t : Tables) (o : token_at t ((bega
   unfolding create_token_call
   barred b e =
       let g = task_found t _ _ 65535 h (bound c) c.found_task.ensures in
+      let w = c.in-Some.is in
       let s = some_is t _ _ 65535 h (bound c) (ne_eqb _ _ c.if-kind-eq-JOB.false) c.some_at.ensures in
-      search (moving, g, s) depth 20
+      search (moving, g, s, w) depth 20
 
   accepted : c.some_at.result ≡ false →
       x ≡ answered (create_token t (began c).args.new (began c).args.kind (began c).args.name) (pos 0) →
@@ -44,8 +45,9 @@ module _ (c : tie.After-some_at) {x : Reply} (t : Tables) (o : token_at t ((bega
   unfolding create_token_call
   accepted b e =
       let g = task_found t _ _ 65535 h (bound c) c.found_task.ensures in
+      let w = c.in-Some.is in
       let s = some_is t _ _ 65535 h (bound c) (ne_eqb _ _ c.if-kind-eq-JOB.false) c.some_at.ensures in
-      search (moving, g, s) depth 20
+      search (moving, g, s, w) depth 20
 
 -- a job: the Rust panics
 panics : (c : tie.Then-kind-eq-JOB) {x : Reply} (t : Tables) →
@@ -57,7 +59,8 @@ unfolding create_token_call
 panics c t h o e =
     let l = rw c.tasks_of.ensures at c.if-tasks_of-name.false in
     let g = task_found t _ _ 65535 h l c.found_task.ensures in
-    search (moving, g) depth 20
+    let w = c.in-Some.is in
+    search (moving, g, w) depth 20
 
 pub create_spec : {M : Type 1} → statement M
 unfolding create_token_call
@@ -85,7 +88,8 @@ create_spec =
     let l = rw c.tasks_of.ensures at c.if-tasks_of-name.false in
     let g = task_found t _ _ 65535 h l c.found_task.ensures in
     let v = h.0 in
-    search (moving, g, v) depth 20)
+    let w = c.in-Some.is in
+    search (moving, g, v, w) depth 20)
     (λ c κs. search rules)
     (λ c t o h.
     panics c.before t h o (token_stays _ t _ _ _ _ c.refused-then-kind-eq-JOB.ensures o h.0))

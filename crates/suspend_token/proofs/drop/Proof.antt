@@ -1,3 +1,4 @@
+use Rattle.std.proofs.Common.{Some}
 use Prim.Native.Nat.{◌%◌}
 use mathlib.Core.Path.{◌≡◌, ap, sym, ◌∙◌}
 use mathlib.Core.Bool.{true, false}
@@ -5,7 +6,6 @@ use lib.IntN.{pos}
 use lib.ListN.{length}
 use Rattle.laws.specs.Lists.{any}
 use Rattle.record_token.specs.declared.SuspendToken.{SuspendToken}
-use Rattle.record_token.specs.declared.FoundToken.TheVariants.{OldToken}
 use Rattle.thread_lists.specs.Each.{has_count}
 use Rattle.records.specs.declared.tables.Tables.{Tables}
 use Rattle.records.specs.Tables.{token_at, thread_at, found_token}
@@ -30,18 +30,18 @@ it c = (began c).args.k
 -- the test is of the record given, which is the token found
 tested : (c : tie.After-none_at) → c.none_at.result ≡ none_in (it c) (began c).args.v (began c).args.barred
 tested c =
-    let is = token_is c.found.ensures c.in-OldToken.is in
+    let is = token_is c.found.ensures c.in-Some.is in
     c.none_at.ensures ∙ ap (λ (k : SuspendToken). none_in k (began c).args.v (began c).args.barred) (sym is)
 
 module _ (c : tie.After-none_at) (t : Tables) (z : length t.threads ≡ 128)
     (o : token_at t ((began c).args.token % 64) ≡ it c) (h : thread_at t ((it c).name % 128) ≡ (began c).args.v)
     (g : (it c).kind ≡ PROCESS → any (has_count (it c).name 0) t.threads ≡ (began c).args.barred) where
   -- the definition's lookup finds the same token, and its test is that of the counts
-  looked_up : found_token t (began c).args.token ≡ OldToken (it c)
+  looked_up : found_token t (began c).args.token ≡ Some (it c)
   looked_up =
       let f = c.found.ensures in
-      let is = token_is f c.in-OldToken.is in
-      sym (token_looked_up_at t _ f c.if-token-ge64.false o) ∙ c.in-OldToken.is ∙ ap OldToken (sym is)
+      let is = token_is f c.in-Some.is in
+      sym (token_looked_up_at t _ f c.if-token-ge64.false o) ∙ c.in-Some.is ∙ ap Some (sym is)
 
   counts : c.none_at.result ≡ some_at t (it c).kind (it c).name 0
   counts = none_is t (it c) h g z (tested c)
@@ -78,7 +78,7 @@ drop_spec =
     (λ c κs. search rules)
     (λ c t z o h g.
     let s = c.before.before.before.before in
-    let is = token_is c.found.ensures c.in-OldToken.is in
+    let is = token_is c.found.ensures c.in-Some.is in
     let u = sym (tested s) ∙ c.if-none_at.false in
     let l = named t (it s) h g u in
     accepted s t z o h g c.if-none_at.false

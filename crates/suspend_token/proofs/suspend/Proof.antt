@@ -31,8 +31,9 @@ module _ (c : tie.After-some_at) {x : Reply} (t : Tables)
   unfolding suspend_call
   barred b e =
       let g = task_found t _ _ 65535 h (bound c) c.found_task.ensures in
+      let w = c.in-Some.is in
       let s = some_is t _ _ 65535 h (bound c) (ne_eqb _ _ c.if-kind-eq-JOB.false) c.some_at.ensures in
-      search (moving, g, s) depth 20
+      search (moving, g, s, w) depth 20
 
   accepted : c.some_at.result ≡ false →
       x ≡ answered (suspend_task t (began c).args.kind (began c).args.name) (pos 0) →
@@ -40,8 +41,9 @@ module _ (c : tie.After-some_at) {x : Reply} (t : Tables)
   unfolding suspend_call
   accepted b e =
       let g = task_found t _ _ 65535 h (bound c) c.found_task.ensures in
+      let w = c.in-Some.is in
       let s = some_is t _ _ 65535 h (bound c) (ne_eqb _ _ c.if-kind-eq-JOB.false) c.some_at.ensures in
-      search (moving, g, s) depth 20
+      search (moving, g, s, w) depth 20
 
 pub suspend_spec : {M : Type 1} → statement M
 unfolding suspend_call
@@ -67,7 +69,8 @@ suspend_spec =
     let l = rw c.tasks_of.ensures at c.if-tasks_of-name.false in
     let g = task_found t _ _ 65535 h l c.found_task.ensures in
     let v = h.0 in
-    search (moving, g, v) depth 20)
+    let w = c.in-Some.is in
+    search (moving, g, v, w) depth 20)
     (λ c κs. search rules)
     (λ c κs. search rules)
     (λ c t h. barred c.before.before t h c.if-some_at.true (stays _ t _ _ _ c.new-then-some_at.ensures h.0))

@@ -1,2 +1,0 @@
--- What the proofs of the buffer cite.
-pub mod Shifting

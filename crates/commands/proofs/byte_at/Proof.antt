@@ -1,9 +1,0 @@
-use mathlib.Core.Path.{sym}
-use lib.ListN.{get_or-eq_default}
-use borrow.Author.Rules.{rules}
-use Rattle.commands.proofs.byte_at.Statement.{statement}
-use Rattle.commands.proofs.byte_at.Tie as tie
-
-pub byte_at_spec : {M : Type 1} → statement M
-byte_at_spec = tie.close (tie.spec (λ c. search rules) (λ c. search rules) (λ c. sym
-    (get_or-eq_default c.args.s.now 0 c.if-i-s.false)))

@@ -1,0 +1,12 @@
+use mir.Syntax.{w64}
+use mir.Val.{SFits}
+use mir.Facts.{to_z-of_z}
+use Rattle.thread.specs.Pair.{both_settled}
+use Rattle.thread_calls.proofs.both_settled.Goals as goal
+
+pub returns : goal.returns
+unfolding both_settled
+returns c =
+    let f : SFits w64 c.answer_of.result = record { sfits = c.answer_of.type_inv } in
+    let e = simp (to_z-of_z {w = w64} f) at c.answered.ensures in
+    simp (c.answer_of.ensures, c.with_thread.ensures, c.with_process-u.ensures) at e

@@ -1,0 +1,7 @@
+use Rattle.token_calls.proofs.Moving.{creates}
+use Rattle.token_calls.proofs.create.Goals as goal
+
+pub returns : goal.returns
+returns c =
+    creates _ _ _ _ c.thread_at-v.ensures c.process_at-q.ensures c.job_at-j.ensures _ _ c.token_to.ensures
+    c.each_unless-done.ensures c.token_at-k.ensures c.create-m.ensures
