@@ -36,18 +36,17 @@ use Rattle.process.specs.Process as process
 use Rattle.job.specs.Job as job
 use Rattle.suspend_token.specs.declared.Task.{Task}
 use Rattle.suspend_token.specs.declared.Token.{Token}
-use Rattle.suspend_token.specs.SuspendToken.{token, changed, task_in, token_in, Concerned, Drops}
+use Rattle.suspend_token.specs.SuspendToken.{token, task_by, changed, task_in, token_in, Concerned, Drops}
 use Rattle.model.specs.Step.{step}
 use Rattle.exceptionate.specs.declared.ChannelCall.{ChannelCall}
 use Rattle.exceptionate.specs.declared.ChannelCall.TheVariants.{CreateChannel, HangUp}
 use Rattle.exceptionate.specs.Exceptionate as exceptionate
 use Rattle.calls.specs.declared.ThreadCall.{ThreadCall}
-use Rattle.calls.specs.declared.ProcessCall.{ProcessCall}
 use Rattle.calls.specs.declared.TaskName.{TaskName}
 use Rattle.calls.specs.declared.JobMove.{JobMove}
 use Rattle.calls.specs.declared.Both.{Both}
 use Rattle.calls.specs.declared.Exiting.{Exiting}
-use Rattle.calls.specs.Groups.{level_call, thread_call, pair_call, process_call, job_move, kill_move, job_moved, task_name}
+use Rattle.calls.specs.Groups.{level_call, thread_call, job_move, kill_move, job_moved, task_name}
 use Rattle.calls.specs.Groups.{pair, both_moved, exiting, exiting_by, exited_in}
 use Rattle.thread.specs.Pair.{both_settled}
 
@@ -156,8 +155,9 @@ task_moves each t name kind n {m} e h g = rw (e, token_after each t kind n (name
 -- a dropped token's task is the one that it holds
 pub drop_arm : (f : Tables → Reply) (t : Tables) (name kind n : ℕ) {k : SuspendToken} {v : Thread} {q : Process}
     {j : Job} {barred : Bool} → Sized t → token_at t (name % 64) ≡ k → task_name k.kind k.name ≡ task_name kind n →
-    Concerned t kind n 0 v q j barred → (m : Token) → Drops f name k v barred m → token_in RESUME t name kind n m ≡ f t
-drop_arm f t name kind n {k} s h e g m d =
+    Concerned t kind n 0 v q j barred → {m : Token} {l : SuspendToken} (w : Thread) (o : Result Bool Refusal) →
+    m ≡ token l (task_by w o) → Drops f name k l v w barred o → token_in RESUME t name kind n m ≡ f t
+drop_arm f t name kind n {k} s h e g w o i d =
     let a : k.kind ≡ kind = ap (λ (x : TaskName). x.kind) e in
     let b : k.name ≡ n = ap (λ (x : TaskName). x.name) e in
-    rw (← a, ← b) (d t s.threads h (rw b g.0) (λ p. rw b (g.3 (sym a ∙ p))))
+    rw (i, ← a, ← b) (d t s.threads h (rw b g.0) (λ p. rw b (g.3 (sym a ∙ p))))

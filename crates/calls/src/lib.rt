@@ -26,7 +26,7 @@ use record_process::Process;
 use record_thread::Thread;
 use record_token::SuspendToken;
 use reply::Shown;
-use suspend_token::Token;
+use suspend_token::{Task, Token};
 use thread_lists::Each;
 
 // 09 to 0c, 16 to 1a, and 12, 13 at level 2: on one thread.
@@ -410,12 +410,17 @@ pub fn on_task(
 ) -> Token
     ensures { OnTasks c token kind name k v q j barred result }
 {
-    match c {
-        TaskCall::CreateToken => suspend_token::create(token, kind, name, k, v, q, j, barred),
-        TaskCall::DropToken => suspend_token::drop(token, k, v, barred),
-        TaskCall::Suspend => Token::new(k, suspend_token::suspend(kind, name, v, q, j, barred)),
-        TaskCall::Resume => Token::new(k, suspend_token::resume(kind, name, v, q, j, barred)),
-    }
+    let mut left = k;
+    let mut w = v;
+    let outcome = match c {
+        TaskCall::CreateToken => {
+            suspend_token::create(token, kind, name, &mut left, &mut w, q, j, barred)
+        }
+        TaskCall::DropToken => suspend_token::drop(token, &mut left, &mut w, barred),
+        TaskCall::Suspend => suspend_token::suspend(kind, name, &mut w, q, j, barred),
+        TaskCall::Resume => suspend_token::resume(kind, name, &mut w, q, j, barred),
+    };
+    Token::new(left, Task::by(w, outcome))
 }
 
 // What 01 leaves under the new name, as the recorder stores it.

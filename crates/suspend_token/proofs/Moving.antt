@@ -1,9 +1,11 @@
 -- How a `return` of a function over the records of a task meets a call's definition: `search moving` closes it.
---     stays, token_stays                       nothing is changed
+--     unchanged, token_unchanged               refused: nothing is changed
 --     task_found, some_is, none_is, ..         a task and its counts, as the tables have them
 --     suspends, resumes, creates, drops        the accepted calls
 -- Assumes nothing.
-use Rattle.std.proofs.Common.{Option}
+use Rattle.std.proofs.Common.{Option, Ok, Err}
+use Rattle.error.specs.declared.Refusal.{Refusal}
+use Rattle.error.specs.Numbers.{number_of}
 use Prim.Native.Nat.{ℕ, ◌%◌, ◌<◌, ◌≤◌}
 use native.Mathlib.Nat.{mod-eq_of_lt}
 use native.Mathlib.Omega.{arith}
@@ -30,15 +32,15 @@ use Rattle.records.specs.Tables.{thread_at, token_at}
 use Rattle.records.proofs.Kept.{job_looked_up_at, process_looked_up_at, thread_looked_up_at}
 use Rattle.records.proofs.Kept.{token_looked_up_at, new_token_lem}
 use Rattle.records.proofs.Kept.{thread_kept, token_kept, thread_at_lem, token_at_lem}
+use Rattle.reply.specs.declared.Reply.{Reply}
 use Rattle.reply.specs.Reply.{answered}
 use Rattle.records.specs.Owners.{tasks_of, found_task, as_task}
 use Rattle.model.specs.SuspendToken.{PROCESS, some_at, change_in, change_task, suspend_task}
 use Rattle.model.specs.SuspendToken.{resume_task, create_token, drop_token}
 use Rattle.model.proofs.Answering.{answering}
 use Rattle.suspend_token.specs.declared.Task.{Task}
-use Rattle.suspend_token.specs.declared.Token.{Token}
-use Rattle.suspend_token.specs.SuspendToken.{task, token, found_task_in, some_in, none_in, suspended_in, resumed_in}
-use Rattle.suspend_token.specs.SuspendToken.{changed, task_in, token_in, Concerned}
+use Rattle.suspend_token.specs.SuspendToken.{task, task_by, token, found_task_in, some_in, none_in}
+use Rattle.suspend_token.specs.SuspendToken.{suspended_in, resumed_in, changed, task_in, token_in, Concerned}
 
 -- ---- Nothing is changed --------------------------------------------------------------------------
 
@@ -48,16 +50,16 @@ unfolding changed if◌then◌otherwise◌ ◌and◌
 kept k t kind n c h = by (kind =? PROCESS) (λ a. rw a (thread_kept t (n % 128) h))
     (λ a. rw a (thread_kept t (n % 128) h))
 
-pub stays : {m : Task} (k : Each) (t : Tables) (kind n : ℕ) {v : Thread} (c : ℤ) →
-    m ≡ task v c false → thread_at t (n % 128) ≡ v → task_in k t kind n m ≡ answered t c
-unfolding task_in
-stays k t kind n c e h = rw (e, kept k t kind n c h)
+pub unchanged : {x : Reply} (k : Each) (t : Tables) (kind n : ℕ) {v : Thread} (e : Refusal) →
+    thread_at t (n % 128) ≡ v → answered t (number_of e) ≡ x → task_in k t kind n (task_by v (Err e)) ≡ x
+unfolding task_in task_by
+unchanged k t kind n e h g = rw (kept k t kind n (number_of e) h) g
 
-pub token_stays : {m : Token} (k : Each) (t : Tables) (o kind n : ℕ) {x : SuspendToken} {v : Thread} (c : ℤ) →
-    m ≡ token x (task v c false) → token_at t (o % 64) ≡ x → thread_at t (n % 128) ≡ v →
-    token_in k t o kind n m ≡ answered t c
-unfolding token_in
-token_stays k t o kind n c e h g = rw (e, kept k t kind n c g, token_kept t (o % 64) h)
+pub token_unchanged : {x : Reply} (k : Each) (t : Tables) (o kind n : ℕ) {l : SuspendToken} {v : Thread} (e : Refusal) →
+    token_at t (o % 64) ≡ l → thread_at t (n % 128) ≡ v → answered t (number_of e) ≡ x →
+    token_in k t o kind n (token l (task_by v (Err e))) ≡ x
+unfolding token_in task_by
+token_unchanged k t o kind n e h i g = rw (kept k t kind n (number_of e) i, token_kept t (o % 64) h) g
 
 -- ---- A task and its counts -------------------------------------------------------------------------
 
@@ -113,11 +115,6 @@ module _ (k : Each) (f : Thread → Thread) (t : Tables) (kind n : ℕ) {v : Thr
       by (kind =? PROCESS) (λ a. rw (e, a, u a))
       (λ a. rw (e, a, mod-eq_of_lt (l a), thread_at_lem t n (l a) h))
 
-answers : (f : Thread → Thread) (kind : ℕ) (v : Thread) {m : Task} →
-    m ≡ (if kind =? PROCESS then task v (pos 0) true otherwise task (f v) (pos 0) false) → m.answer ≡ pos 0
-unfolding if◌then◌otherwise◌
-answers f kind v e = by (kind =? PROCESS) (λ a. rw (e, a)) (λ a. rw (e, a))
-
 module _ (t : Tables) (kind n : ℕ) {v : Thread} (h : thread_at t (n % 128) ≡ v)
     (l : kind =? PROCESS ≡ false → n < 128) where
   -- no full count among the threads of a process
@@ -126,15 +123,16 @@ module _ (t : Tables) (kind n : ℕ) {v : Thread} (h : thread_at t (n % 128) ≡
     unfolding suspended_in suspend_task
     suspends_task e = changes SUSPEND suspend t kind n h l (λ a. suspended_each n t.threads (u a)) e
 
-    pub suspends : {m : Task} → m ≡ suspended_in kind v →
-        task_in SUSPEND t kind n m ≡ answered (suspend_task t kind n) (pos 0)
-    unfolding suspended_in task_in
-    suspends e = rw (suspends_task e, answers suspend kind v e)
+    pub suspends : {w : Thread} {each : Bool} → task w (pos 0) each ≡ suspended_in kind v →
+        task_in SUSPEND t kind n (task_by w (Ok each)) ≡ answered (suspend_task t kind n) (pos 0)
+    unfolding task_in task_by
+    suspends e = rw (suspends_task e)
 
-    pub creates : {m : Task} {x : Token} (o : ℕ) → m ≡ suspended_in kind v → x ≡ token (new_token kind n) m → o < 64 →
-        token_in SUSPEND t o kind n x ≡ answered (create_token t o kind n) (pos 0)
-    unfolding suspended_in token_in create_token
-    creates o e g i = rw (g, suspends_task e, answers suspend kind v e, mod-eq_of_lt i)
+    pub creates : {w : Thread} {each : Bool} {l : SuspendToken} (o : ℕ) → task w (pos 0) each ≡ suspended_in kind v →
+        l ≡ new_token kind n → o < 64 →
+        token_in SUSPEND t o kind n (token l (task_by w (Ok each))) ≡ answered (create_token t o kind n) (pos 0)
+    unfolding token_in task_by create_token
+    creates o e g i = rw (g, suspends_task e, mod-eq_of_lt i)
 
   -- no count of 0 among them
   module _ (u : kind =? PROCESS ≡ true → any (has_count n 0) t.threads ≡ false) where
@@ -142,15 +140,16 @@ module _ (t : Tables) (kind n : ℕ) {v : Thread} (h : thread_at t (n % 128) ≡
     unfolding resumed_in resume_task
     resumes_task e = changes RESUME resume t kind n h l (λ a. resumed_each n t.threads (u a)) e
 
-    pub resumes : {m : Task} → m ≡ resumed_in kind v →
-        task_in RESUME t kind n m ≡ answered (resume_task t kind n) (pos 0)
-    unfolding resumed_in task_in
-    resumes e = rw (resumes_task e, answers resume kind v e)
+    pub resumes : {w : Thread} {each : Bool} → task w (pos 0) each ≡ resumed_in kind v →
+        task_in RESUME t kind n (task_by w (Ok each)) ≡ answered (resume_task t kind n) (pos 0)
+    unfolding task_in task_by
+    resumes e = rw (resumes_task e)
 
-    pub drops : {m : Task} {x : Token} {w : SuspendToken} (o : ℕ) → m ≡ resumed_in kind v → x ≡ token (drop w) m →
-        o < 64 → token_at t (o % 64) ≡ w → token_in RESUME t o kind n x ≡ answered (drop_token t o kind n) (pos 0)
-    unfolding resumed_in token_in drop_token
-    drops o e g i z = rw (g, resumes_task e, answers resume kind v e, ← token_at_lem t o i z, mod-eq_of_lt i)
+    pub drops : {w : Thread} {each : Bool} {k l : SuspendToken} (o : ℕ) → task w (pos 0) each ≡ resumed_in kind v →
+        l ≡ drop k → o < 64 → token_at t (o % 64) ≡ k →
+        token_in RESUME t o kind n (token l (task_by w (Ok each))) ≡ answered (drop_token t o kind n) (pos 0)
+    unfolding token_in task_by drop_token
+    drops o e g i z = rw (g, resumes_task e, ← token_at_lem t o i z, mod-eq_of_lt i)
 
 -- ---- The counts of a token's task ----------------------------------------------------------------------
 
@@ -178,4 +177,4 @@ module _ (t : Tables) (k : SuspendToken) {v : Thread} {barred : Bool} (h : threa
   unfolding none_in if◌then◌otherwise◌
   named e a = by (128 ≤? k.name) (λ c. no_both refl (rw (a, c) at e)) (λ c. leb-false 128 k.name c)
 
-pub ruleset moving = (answering, stays, token_stays, token_looked_up_at, new_token_lem)
+pub ruleset moving = (unchanged, token_unchanged, answering, token_looked_up_at, new_token_lem)

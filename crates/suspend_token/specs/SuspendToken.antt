@@ -1,7 +1,9 @@
 -- Suspending, resuming and tokens, over the records that they name: what a call gives, stored where the records were
 -- and done to each thread of the process where asked, is what the model says of the call, whatever else the tables
 -- hold.
-use Rattle.std.specs.Prelude.{Option}
+use Rattle.std.specs.Prelude.{Option, Result, Ok, Err}
+use Rattle.error.specs.declared.Refusal.{Refusal}
+use Rattle.error.specs.Numbers.{number_of}
 use Rattle.std.specs.Prelude.{ℕ, ◌%◌, ◌≡◌, Bool, true, false, length, ℤ, pos}
 use Rattle.laws.specs.Choice.{◌≤?◌, ◌=?◌, ◌and◌, if◌then◌otherwise◌}
 use Rattle.laws.specs.Lists.{any}
@@ -25,6 +27,11 @@ use Rattle.suspend_token.specs.declared.Token.{Token}
 
 abbrev pub task : Thread → ℤ → Bool → Task
 task v answer each = record { answer = answer; each = each; thread = v }
+
+-- by the thread after the call, and the outcome: `Ok true` where each thread of a process is to be changed
+unfoldable pub task_by : Thread → Result Bool Refusal → Task
+task_by v (Ok each) = task v (pos 0) each
+task_by v (Err e) = task v (number_of e) false
 
 abbrev pub token : SuspendToken → Task → Token
 token k m = record { task = m; token = k }
@@ -75,21 +82,27 @@ Concerned t kind n count v q j barred =
     (thread_at t (n % 128) ≡ v) × (process_at t (n % 64) ≡ q) × (job_at t (n % 32) ≡ j) ×
     (kind ≡ PROCESS → any (has_count n count) t.threads ≡ barred)
 
-abbrev pub Suspends : (Tables → Reply) → (kind n : ℕ) → Thread → Process → Job → Bool → Task → Type 0
-Suspends f kind n v q j barred m = (t : Tables) →
-    Concerned t kind n FULL v q j barred → task_in SUSPEND t kind n m ≡ f t
+-- the call f on task n, whose thread is v, leaves it as w and comes to r
+abbrev pub Suspends : (Tables → Reply) → (kind n : ℕ) → (v w : Thread) → Process → Job → Bool → Result Bool Refusal →
+    Type 0
+Suspends f kind n v w q j barred r =
+    (t : Tables) → Concerned t kind n FULL v q j barred → task_in SUSPEND t kind n (task_by w r) ≡ f t
 
-abbrev pub Resumes : (Tables → Reply) → (kind n : ℕ) → Thread → Process → Job → Bool → Task → Type 0
-Resumes f kind n v q j barred m = (t : Tables) → Concerned t kind n 0 v q j barred → task_in RESUME t kind n m ≡ f t
+abbrev pub Resumes : (Tables → Reply) → (kind n : ℕ) → (v w : Thread) → Process → Job → Bool → Result Bool Refusal →
+    Type 0
+Resumes f kind n v w q j barred r =
+    (t : Tables) → Concerned t kind n 0 v q j barred → task_in RESUME t kind n (task_by w r) ≡ f t
 
-abbrev pub Creates : (Tables → Reply) → (new kind n : ℕ) → SuspendToken → Thread → Process → Job → Bool → Token → Type 0
-Creates f new kind n k v q j barred m =
-    (t : Tables) → token_at t (new % 64) ≡ k → Concerned t kind n FULL v q j barred → token_in SUSPEND t new kind n m
-    ≡ f t
+-- the same, and leaves the token k as l
+abbrev pub Creates : (Tables → Reply) → (new kind n : ℕ) → (k l : SuspendToken) → (v w : Thread) → Process → Job →
+    Bool → Result Bool Refusal → Type 0
+Creates f new kind n k l v w q j barred r =
+    (t : Tables) → token_at t (new % 64) ≡ k → Concerned t kind n FULL v q j barred →
+    token_in SUSPEND t new kind n (token l (task_by w r)) ≡ f t
 
 -- a name past the table of threads has no count
-abbrev pub Drops : (Tables → Reply) → ℕ → SuspendToken → Thread → Bool → Token → Type 0
-Drops f name k v barred m =
+abbrev pub Drops : (Tables → Reply) → ℕ → (k l : SuspendToken) → (v w : Thread) → Bool → Result Bool Refusal → Type 0
+Drops f name k l v w barred r =
     (t : Tables) → length t.threads ≡ 128 → token_at t (name % 64) ≡ k → thread_at t (k.name % 128) ≡ v →
-    (k.kind ≡ PROCESS → any (has_count k.name 0) t.threads ≡ barred) → token_in RESUME t name k.kind
-    k.name m ≡ f t
+    (k.kind ≡ PROCESS → any (has_count k.name 0) t.threads ≡ barred) →
+    token_in RESUME t name k.kind k.name (token l (task_by w r)) ≡ f t

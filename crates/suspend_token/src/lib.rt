@@ -1,15 +1,15 @@
 // suspend_token: suspending and resuming a task, and tokens, over the records that they name. Follows
 // suspend_token.rs, and `suspend` and `resume` of thread.rs and process.rs. Each call stands here once: its refusals
 // in document 01's order, then its effect. Kind 1 is a process, and each thread that it lists is concerned: `barred`
-// says whether the count of one stands in the way, and `each` that each is to be changed. specs/SuspendToken.antt
-// says what is given means for the tables.
+// says whether the count of one stands in the way, and an accepted call whether each is to be changed: the one thread
+// is as it was then. specs/SuspendToken.antt says what is given means for the tables.
 #![tactic(auto)]
 
-ghost use Rattle.std.specs.Prelude.{false, ◌≡◌};
+ghost use Rattle.std.specs.Prelude.{false, pos, ◌≡◌};
 ghost use Rattle.records.specs.Owners.{tasks_of};
 ghost use Rattle.model.specs.ThreadCalls.{create_token_call, drop_token_call, suspend_call, resume_call};
-ghost use Rattle.suspend_token.specs.SuspendToken.{found_task_in, some_in, task, token, suspended_in, resumed_in};
-ghost use Rattle.suspend_token.specs.SuspendToken.{Suspends, Resumes, Creates, Drops, none_in};
+ghost use Rattle.suspend_token.specs.SuspendToken.{found_task_in, some_in, none_in, task, task_by, token};
+ghost use Rattle.suspend_token.specs.SuspendToken.{suspended_in, resumed_in, Suspends, Resumes, Creates, Drops};
 
 use error::Refusal;
 use record_job::Job;
@@ -56,7 +56,8 @@ fn some_at(kind: u8, v: Thread, barred: bool, count: u16) -> bool
 
 // -- Suspending and resuming -------------------------------------------------------------------
 
-// What 1e and 1f come to: the answer, whether each thread of a process is changed, and the thread after it.
+// What 1e and 1f come to: the answer, whether each thread of a process is changed, and the thread after it. It holds
+// what the recorder stores; `by` makes it from an outcome.
 #[derive(Clone, Copy)]
 pub struct Task {
     pub answer: i64,
@@ -65,77 +66,107 @@ pub struct Task {
 }
 
 impl Task {
-    fn new(v: Thread, answer: i64, each: bool) -> Task
-        ensures { result ≡ task v answer each }
+    pub fn by(v: Thread, outcome: Result<bool, Refusal>) -> Task
+        ensures { result ≡ task_by v outcome }
     {
-        Task {
-            answer: answer,
-            each: each,
-            thread: v,
+        match outcome {
+            Ok(each) => Task {
+                answer: 0,
+                each,
+                thread: v,
+            },
+            Err(refusal) => Task {
+                answer: refusal.number(),
+                each: false,
+                thread: v,
+            },
         }
     }
+}
 
-    fn suspended(kind: u8, v: Thread) -> Task
-        ensures { result ≡ suspended_in kind v }
-    {
-        if kind == Kind::PROCESS {
-            return Task::new(v, 0, true);
-        }
-        Task::new(v.suspend(), 0, false)
+// An accepted change. Answers whether it is of each thread of a process; else this one is changed.
+#[tactic(auto, using(laws::proofs::Flow::branches), unfolding(crate::specs::SuspendToken::suspended_in))]
+fn suspended(kind: u8, v: &mut Thread) -> bool
+    ensures { task v.new (pos 0) result ≡ suspended_in kind v.old }
+{
+    if kind == Kind::PROCESS {
+        return true;
     }
+    *v = v.suspend();
+    false
+}
 
-    fn resumed(kind: u8, v: Thread) -> Task
-        ensures { result ≡ resumed_in kind v }
-    {
-        if kind == Kind::PROCESS {
-            return Task::new(v, 0, true);
-        }
-        Task::new(v.resume(), 0, false)
+#[tactic(auto, using(laws::proofs::Flow::branches), unfolding(crate::specs::SuspendToken::resumed_in))]
+fn resumed(kind: u8, v: &mut Thread) -> bool
+    ensures { task v.new (pos 0) result ≡ resumed_in kind v.old }
+{
+    if kind == Kind::PROCESS {
+        return true;
     }
+    *v = v.resume();
+    false
 }
 
 // 1e: `Task::suspend`. A job can't be suspended: the Rust panics.
-pub fn suspend(kind: u8, name: u8, v: Thread, q: Process, j: Job, barred: bool) -> Task
-    ensures { Suspends (λ t. suspend_call t kind name) kind name v q j barred result }
+#[tactic(auto, using(crate::proofs::Moving::moving), unfolding(model::specs::ThreadCalls::suspend_call))]
+pub fn suspend(
+    kind: u8,
+    name: u8,
+    v: &mut Thread,
+    q: Process,
+    j: Job,
+    barred: bool,
+) -> Result<bool, Refusal>
+    ensures { Suspends (λ t. suspend_call t kind name) kind name v.old v.new q j barred result }
 {
     if 2 < kind {
-        return Task::new(v, Refusal::BAD_FIELD, false);
+        return Err(Refusal::BadField);
     }
     if tasks_of(kind) <= name {
-        return Task::new(v, Refusal::PAST_TABLE, false);
+        return Err(Refusal::PastTable);
     }
-    let Some(()) = found_task(kind, v, q, j) else {
-        return Task::new(v, Refusal::NOT_MADE, false);
+    let Some(()) = found_task(kind, *v, q, j) else {
+        return Err(Refusal::NotMade);
     };
     if kind == Kind::JOB {
-        return Task::new(v, Refusal::PANICS, false);
+        return Err(Refusal::Panics);
     }
-    if some_at(kind, v, barred, 65535) {
-        return Task::new(v, Refusal::FULL, false);
+    if some_at(kind, *v, barred, 65535) {
+        Err(Refusal::Full)
+    } else {
+        Ok(suspended(kind, v))
     }
-    Task::suspended(kind, v)
 }
 
 // 1f: `Task::resume`.
-pub fn resume(kind: u8, name: u8, v: Thread, q: Process, j: Job, barred: bool) -> Task
-    ensures { Resumes (λ t. resume_call t kind name) kind name v q j barred result }
+#[tactic(auto, using(crate::proofs::Moving::moving), unfolding(model::specs::ThreadCalls::resume_call))]
+pub fn resume(
+    kind: u8,
+    name: u8,
+    v: &mut Thread,
+    q: Process,
+    j: Job,
+    barred: bool,
+) -> Result<bool, Refusal>
+    ensures { Resumes (λ t. resume_call t kind name) kind name v.old v.new q j barred result }
 {
     if 2 < kind {
-        return Task::new(v, Refusal::BAD_FIELD, false);
+        return Err(Refusal::BadField);
     }
     if tasks_of(kind) <= name {
-        return Task::new(v, Refusal::PAST_TABLE, false);
+        return Err(Refusal::PastTable);
     }
-    let Some(()) = found_task(kind, v, q, j) else {
-        return Task::new(v, Refusal::NOT_MADE, false);
+    let Some(()) = found_task(kind, *v, q, j) else {
+        return Err(Refusal::NotMade);
     };
     if kind == Kind::JOB {
-        return Task::new(v, Refusal::PANICS, false);
+        return Err(Refusal::Panics);
     }
-    if some_at(kind, v, barred, 0) {
-        return Task::new(v, Refusal::PANICS, false);
+    if some_at(kind, *v, barred, 0) {
+        Err(Refusal::Panics)
+    } else {
+        Ok(resumed(kind, v))
     }
-    Task::resumed(kind, v)
 }
 
 // -- Tokens ----------------------------------------------------------------------------------
@@ -153,49 +184,45 @@ impl Token {
     {
         Token { task: m, token: k }
     }
-
-    fn refused(k: SuspendToken, v: Thread, answer: i64) -> Token
-        ensures { result ≡ token k (task v answer false) }
-    {
-        Token::new(k, Task::new(v, answer, false))
-    }
 }
 
 // 0d: `SuspendToken::create`; k is the record of the new name. Making a token suspends its task.
+#[tactic(auto, using(crate::proofs::Moving::moving), unfolding(model::specs::ThreadCalls::create_token_call))]
 pub fn create(
     new: u8,
     kind: u8,
     name: u8,
-    k: SuspendToken,
-    v: Thread,
+    k: &mut SuspendToken,
+    v: &mut Thread,
     q: Process,
     j: Job,
     barred: bool,
-) -> Token
-    ensures { Creates (λ t. create_token_call t new kind name) new kind name k v q j barred result }
+) -> Result<bool, Refusal>
+    ensures { Creates (λ t. create_token_call t new kind name) new kind name k.old k.new v.old v.new q j barred result }
 {
     if 2 < kind {
-        return Token::refused(k, v, Refusal::BAD_FIELD);
+        return Err(Refusal::BadField);
     }
     if 64 <= new {
-        return Token::refused(k, v, Refusal::PAST_TABLE);
+        return Err(Refusal::PastTable);
     }
     if tasks_of(kind) <= name {
-        return Token::refused(k, v, Refusal::PAST_TABLE);
+        return Err(Refusal::PastTable);
     }
-    let Some(()) = found_task(kind, v, q, j) else {
-        return Token::refused(k, v, Refusal::NOT_MADE);
+    let Some(()) = found_task(kind, *v, q, j) else {
+        return Err(Refusal::NotMade);
     };
     if k.made {
-        return Token::refused(k, v, Refusal::USED);
+        return Err(Refusal::Used);
     }
     if kind == Kind::JOB {
-        return Token::refused(k, v, Refusal::PANICS);
+        return Err(Refusal::Panics);
     }
-    if some_at(kind, v, barred, 65535) {
-        return Token::refused(k, v, Refusal::FULL);
+    if some_at(kind, *v, barred, 65535) {
+        return Err(Refusal::Full);
     }
-    Token::new(SuspendToken::new(kind, name), Task::suspended(kind, v))
+    *k = SuspendToken::new(kind, name);
+    Ok(suspended(kind, v))
 }
 
 // Whether a thread concerned has no suspension; a name past the table has none.
@@ -214,17 +241,19 @@ fn none_at(k: SuspendToken, v: Thread, barred: bool) -> bool
 
 // 0e: a token dropped; v is the thread of the name that it holds. Where a thread concerned has 0, all counts and the
 // token stay.
-pub fn drop(token: u8, k: SuspendToken, v: Thread, barred: bool) -> Token
-    ensures { Drops (λ t. drop_token_call t token) token k v barred result }
+#[tactic(auto, using(crate::proofs::Moving::moving), unfolding(model::specs::ThreadCalls::drop_token_call))]
+pub fn drop(token: u8, k: &mut SuspendToken, v: &mut Thread, barred: bool) -> Result<bool, Refusal>
+    ensures { Drops (λ t. drop_token_call t token) token k.old k.new v.old v.new barred result }
 {
     if 64 <= token {
-        return Token::refused(k, v, Refusal::PAST_TABLE);
+        return Err(Refusal::PastTable);
     }
     let Some(w) = k.found() else {
-        return Token::refused(k, v, Refusal::NOT_MADE);
+        return Err(Refusal::NotMade);
     };
-    if none_at(w, v, barred) {
-        return Token::refused(k, v, Refusal::PANICS);
+    if none_at(w, *v, barred) {
+        return Err(Refusal::Panics);
     }
-    Token::new(w.drop(), Task::resumed(w.kind, v))
+    *k = w.drop();
+    Ok(resumed(w.kind, v))
 }

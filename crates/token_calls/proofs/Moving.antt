@@ -6,6 +6,8 @@
 use Prim.Native.Nat.{ℕ, ◌%◌}
 use mathlib.Core.Path.{◌≡◌, sym, ap, ◌∙◌}
 use mathlib.Core.Bool.{Bool}
+use Rattle.std.proofs.Common.{Result}
+use Rattle.error.specs.declared.Refusal.{Refusal}
 use lib.ListN.{length}
 use Rattle.laws.specs.Lists.{any}
 use Rattle.record_job.specs.declared.Job.{Job}
@@ -21,7 +23,7 @@ use Rattle.records.specs.Tables.{job_at, process_at, thread_at, token_at}
 use Rattle.reply.specs.declared.Reply.{Reply}
 use Rattle.suspend_token.specs.declared.Task.{Task}
 use Rattle.suspend_token.specs.declared.Token.{Token}
-use Rattle.suspend_token.specs.SuspendToken.{changed, task_in, token_in, Concerned}
+use Rattle.suspend_token.specs.SuspendToken.{token, task_by, changed, task_in, token_in, Concerned}
 use Rattle.suspend_token.specs.SuspendToken.{Suspends, Resumes, Creates, Drops}
 use Rattle.token_calls.specs.TokenCalls.{of_each, changed_to, task_to, token_to}
 
@@ -30,33 +32,40 @@ module _ (f : Tables → Reply) (t : Tables) (kind n : ℕ) {v : Thread} {q : Pr
   concerned : (count : ℕ) {e : Bool} → any (has_count n count) t.threads ≡ e → Concerned t kind n count v q j e
   concerned count e = (sym a, sym b, sym c, λ _. e)
 
-  pub suspends : {x : Reply} {d : Changed} (m : Task) → x ≡ task_to t kind n d.threads m →
-      d ≡ each_unless SUSPEND n t.threads → Suspends f kind n v q j d.barred m → x ≡ f t
+  pub suspends : {x : Reply} {d : Changed} (w : Thread) (r : Result Bool Refusal) (m : Task) →
+      x ≡ task_to t kind n d.threads m → m ≡ task_by w r → d ≡ each_unless SUSPEND n t.threads →
+      Suspends f kind n v w q j d.barred r → x ≡ f t
   unfolding of_each changed_to task_to task_in changed
-  suspends m p e s =
+  suspends w r m p i e s =
       p ∙ ap (λ (r : Changed). task_to t kind n r.threads m) e
+      ∙ ap (λ (a : Task). task_in SUSPEND t kind n a) i
       ∙ s t (concerned FULL (full_bars n t.threads ∙ ap (λ (r : Changed). r.barred) (sym e)))
 
-  pub resumes : {x : Reply} {d : Changed} (m : Task) → x ≡ task_to t kind n d.threads m →
-      d ≡ each_unless RESUME n t.threads → Resumes f kind n v q j d.barred m → x ≡ f t
+  pub resumes : {x : Reply} {d : Changed} (w : Thread) (r : Result Bool Refusal) (m : Task) →
+      x ≡ task_to t kind n d.threads m → m ≡ task_by w r → d ≡ each_unless RESUME n t.threads →
+      Resumes f kind n v w q j d.barred r → x ≡ f t
   unfolding of_each changed_to task_to task_in changed
-  resumes m p e s =
+  resumes w r m p i e s =
       p ∙ ap (λ (r : Changed). task_to t kind n r.threads m) e
+      ∙ ap (λ (a : Task). task_in RESUME t kind n a) i
       ∙ s t (concerned 0 (none_bars n t.threads ∙ ap (λ (r : Changed). r.barred) (sym e)))
 
-  pub creates : {x : Reply} {d : Changed} (o : ℕ) {k : SuspendToken} (m : Token) →
-      x ≡ token_to t o kind n d.threads m → d ≡ each_unless SUSPEND n t.threads → k ≡ token_at t (o % 64) →
-      Creates f o kind n k v q j d.barred m → x ≡ f t
+  pub creates : {x : Reply} {d : Changed} (o : ℕ) {k l : SuspendToken} (w : Thread) (r : Result Bool Refusal) {u : Task}
+      (m : Token) → x ≡ token_to t o kind n d.threads m → m ≡ token l u → u ≡ task_by w r → d ≡ each_unless SUSPEND n t.threads →
+      k ≡ token_at t (o % 64) → Creates f o kind n k l v w q j d.barred r → x ≡ f t
   unfolding of_each changed_to token_to token_in changed
-  creates o m p e g s =
+  creates o {l = l} w r m p h i e g s =
       p ∙ ap (λ (r : Changed). token_to t o kind n r.threads m) e
+      ∙ ap (λ (a : Token). token_in SUSPEND t o kind n a) (h ∙ ap (λ (a : Task). token l a) i)
       ∙ s t (sym g) (concerned FULL (full_bars n t.threads ∙ ap (λ (r : Changed). r.barred) (sym e)))
 
-pub drops : (f : Tables → Reply) (t : Tables) (o : ℕ) (k : SuspendToken) {v : Thread} {x : Reply} {d : Changed}
-    (m : Token) → x ≡ token_to t o k.kind k.name d.threads m →
-    d ≡ each_unless RESUME k.name t.threads → k ≡ token_at t (o % 64) → v ≡ thread_at t (k.name % 128) →
-    length t.threads ≡ 128 → Drops f o k v d.barred m → x ≡ f t
+pub drops : (f : Tables → Reply) (t : Tables) (o : ℕ) (k : SuspendToken) {l : SuspendToken} {v : Thread} {x : Reply}
+    {d : Changed} (w : Thread) (r : Result Bool Refusal) {u : Task} (m : Token) →
+    x ≡ token_to t o k.kind k.name d.threads m → m ≡ token l u → u ≡ task_by w r →
+    d ≡ each_unless RESUME k.name t.threads → k ≡ token_at t (o % 64) →
+    v ≡ thread_at t (k.name % 128) → length t.threads ≡ 128 → Drops f o k l v w d.barred r → x ≡ f t
 unfolding of_each changed_to token_to token_in changed
-drops f t o k m p e g h l s =
+drops f t o k {l = l} w r m p a i e g h long s =
     p ∙ ap (λ (r : Changed). token_to t o k.kind k.name r.threads m) e
-    ∙ s t l (sym g) (sym h) (λ _. none_bars k.name t.threads ∙ ap (λ (r : Changed). r.barred) (sym e))
+    ∙ ap (λ (b : Token). token_in RESUME t o k.kind k.name b) (a ∙ ap (λ (b : Task). token l b) i)
+    ∙ s t long (sym g) (sym h) (λ _. none_bars k.name t.threads ∙ ap (λ (r : Changed). r.barred) (sym e))

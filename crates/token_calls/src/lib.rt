@@ -58,24 +58,24 @@ fn token_to(t: Tables, token: u8, kind: u8, name: u8, threads: [Thread; 128], m:
 pub fn suspend(t: Tables, kind: u8, name: u8) -> Reply
     ensures { result ≡ suspend_call t kind name }
 {
-    let v = thread_at(t, name % 128);
+    let mut v = thread_at(t, name % 128);
     let q = process_at(t, name % 64);
     let j = job_at(t, name % 32);
     let done = each_unless(t.threads, name, Each::Suspend);
-    let m = suspend_token::suspend(kind, name, v, q, j, done.barred);
-    task_to(t, kind, name, done.threads, m)
+    let outcome = suspend_token::suspend(kind, name, &mut v, q, j, done.barred);
+    task_to(t, kind, name, done.threads, Task::by(v, outcome))
 }
 
 // 1f: `Task::resume`.
 pub fn resume(t: Tables, kind: u8, name: u8) -> Reply
     ensures { result ≡ resume_call t kind name }
 {
-    let v = thread_at(t, name % 128);
+    let mut v = thread_at(t, name % 128);
     let q = process_at(t, name % 64);
     let j = job_at(t, name % 32);
     let done = each_unless(t.threads, name, Each::Resume);
-    let m = suspend_token::resume(kind, name, v, q, j, done.barred);
-    task_to(t, kind, name, done.threads, m)
+    let outcome = suspend_token::resume(kind, name, &mut v, q, j, done.barred);
+    task_to(t, kind, name, done.threads, Task::by(v, outcome))
 }
 
 // -- Tokens --------------------------------------------------------------------------------------
@@ -84,13 +84,20 @@ pub fn resume(t: Tables, kind: u8, name: u8) -> Reply
 pub fn create(t: Tables, new: u8, kind: u8, name: u8) -> Reply
     ensures { result ≡ create_token_call t new kind name }
 {
-    let k = token_at(t, new % 64);
-    let v = thread_at(t, name % 128);
+    let mut k = token_at(t, new % 64);
+    let mut v = thread_at(t, name % 128);
     let q = process_at(t, name % 64);
     let j = job_at(t, name % 32);
     let done = each_unless(t.threads, name, Each::Suspend);
-    let m = suspend_token::create(new, kind, name, k, v, q, j, done.barred);
-    token_to(t, new, kind, name, done.threads, m)
+    let outcome = suspend_token::create(new, kind, name, &mut k, &mut v, q, j, done.barred);
+    token_to(
+        t,
+        new,
+        kind,
+        name,
+        done.threads,
+        Token::new(k, Task::by(v, outcome)),
+    )
 }
 
 // 0e: a token dropped.
@@ -98,8 +105,16 @@ pub fn drop(t: Tables, token: u8) -> Reply
     ensures { result ≡ drop_token_call t token }
 {
     let k = token_at(t, token % 64);
-    let v = thread_at(t, k.name % 128);
+    let mut left = k;
+    let mut v = thread_at(t, k.name % 128);
     let done = each_unless(t.threads, k.name, Each::Resume);
-    let m = suspend_token::drop(token, k, v, done.barred);
-    token_to(t, token, k.kind, k.name, done.threads, m)
+    let outcome = suspend_token::drop(token, &mut left, &mut v, done.barred);
+    token_to(
+        t,
+        token,
+        k.kind,
+        k.name,
+        done.threads,
+        Token::new(left, Task::by(v, outcome)),
+    )
 }
