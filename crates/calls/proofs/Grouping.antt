@@ -13,9 +13,6 @@ use Prim.Native.Nat.{ℕ, ◌%◌}
 use mathlib.Core.Path.{◌≡◌, refl, sym, ◌∙◌, ap}
 use mathlib.Core.Bool.{Bool, true, false}
 use mathlib.Core.List.{List}
-use Rattle.std.proofs.Common.{Result, Ok, Err}
-use Rattle.error.specs.declared.Refusal.{Refusal}
-use Rattle.error.specs.Numbers.{answer_of}
 use Rattle.laws.specs.Choice.{if◌then◌otherwise◌}
 use Rattle.job_policy.specs.declared.JobPolicy.{JobPolicy}
 use Rattle.record_job.specs.declared.Job.{Job}

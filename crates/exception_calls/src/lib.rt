@@ -1,5 +1,5 @@
 // exception_calls: the calls on exceptions and their channels, on the tables by value: 12 to 18. Each reads the records
-// that it names, asks crate exception or exceptionate, and stores what that gives. What each comes to is in
+// that it names, asks crate exception or exceptionate, and stores what that leaves. What each comes to is in
 // model/specs/ExceptionCalls.antt.
 #![tactic(auto)]
 

@@ -27,7 +27,8 @@ use Rattle.thread.proofs.Moving.{moving, settles_stored}
 abbrev pub over : Tables → ℕ → (Thread → Exception → Guarded Reply) → Reply
 over t n f = call t (guard (pos 101) (128 ≤? n) >> (thread t n >>= (λ v. exception v >>= (λ e. f v e))))
 
-module _ (t : Tables) (n : ℕ) (f : Thread → Exception → Guarded Reply) {v : Thread} (h : thread_at t (n % 128) ≡ v) where
+module _ (t : Tables) (n : ℕ) (f : Thread → Exception → Guarded Reply) {v : Thread}
+    (h : thread_at t (n % 128) ≡ v) where
   pub past_table : 128 ≤ n → settled t n v (Err PastTable) ≡ over t n f
   past_table k = search moving depth 20
 

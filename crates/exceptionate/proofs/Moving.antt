@@ -73,7 +73,8 @@ absent CreateChannel t level n b k f g e = search answering depth 20
 absent HangUp t level n b k f g e = search answering depth 20
 
 -- the ways out of a call on it
-module _ (call : ChannelCall) {t : Tables} {level n size : ℕ} {g : Option Level} (o : Channel t level n size g) {x : Reply} where
+module _ (call : ChannelCall) {t : Tables} {level n size : ℕ} {g : Option Level}
+    (o : Channel t level n size g) {x : Reply} where
   pub past : size ≤ n → x ≡ answered t (pos 101) → x ≡ on_level call t level n
   past k e = ends call t level n o.good (rw o.owners k) e
 
@@ -127,7 +128,8 @@ pub channel_of_process : (d : Bool) {q : Process} (t : Tables) (n : ℕ) → pro
     Channel t (of_process d) n 64 (level_of_process (found_process_in q) (of_process d))
 unfolding of_process owners_of found_level found_process found_process_in if◌then◌otherwise◌ ◌or◌
 channel_of_process true t n h = record { good = refl; owners = refl; looked_up = λ k. rw (process_at_lem t n k h) refl }
-channel_of_process false t n h = record { good = refl; owners = refl; looked_up = λ k. rw (process_at_lem t n k h) refl }
+channel_of_process false t n h =
+    record { good = refl; owners = refl; looked_up = λ k. rw (process_at_lem t n k h) refl }
 
 module _ (d : Bool) (t : Tables) (n : ℕ) {q : Process} (h : process_at t (n % 64) ≡ q) where
   pub process_debugger_put : {u : Process} (l : Level) → d ≡ true → n < 64 → u ≡ with_level1 q l →

@@ -43,7 +43,8 @@ use Rattle.job.proofs.Alone.{kills_alone_lem}
 -- ---- 01 ----------------------------------------------------------------------------------------
 
 pub unmade : {x : Reply} (t : Tables) (new : ℕ) {w : Job} {held : JobPolicy} (e : Refusal) →
-    job_at t (slot new) ≡ w → inherited_at t (slot new) ≡ held → answered t (number_of e) ≡ x → made_in t new w held (Err e) ≡ x
+    job_at t (slot new) ≡ w → inherited_at t (slot new) ≡ held → answered t (number_of e) ≡ x →
+    made_in t new w held (Err e) ≡ x
 unfolding made_in
 unmade t new e h k g = rw (job_kept t (slot new) h, inherited_kept t (slot new) k) g
 

@@ -1,4 +1,4 @@
--- The calls on a job, over the records that they name: what a call gives, stored where the records were, is what the
+-- The calls on a job, over the records that they name: what a call leaves, stored where the records were, is what the
 -- model says of the call, whatever else the tables hold.
 use Rattle.std.specs.Prelude.{ℕ, ◌%◌, ◌≡◌, Bool, true, pos, Result, Ok, Err}
 use Rattle.laws.specs.Choice.{if◌then◌otherwise◌}
@@ -28,7 +28,8 @@ made_in t new v inherited r =
     answered (put_inherited (put_job t (slot new) v) (slot new) inherited) (answer_of r)
 
 -- j, own and inherited are of the job that is named; under the new name stand w and held, and v and kept after the call
-abbrev pub Makes : (Tables → Reply) → (job new : ℕ) → Job → JobPolicy → JobPolicy → (w v : Job) → (held kept : JobPolicy) →
+abbrev pub Makes : (Tables → Reply) → (job new : ℕ) → Job → JobPolicy → JobPolicy →
+    (w v : Job) → (held kept : JobPolicy) →
     Result Unit Refusal → Type 0
 Makes f job new j own inherited w v held kept r =
     (t : Tables) → job_at t (slot job) ≡ j → own_at t (slot job) ≡ own → inherited_at t (slot job) ≡ inherited →
@@ -61,7 +62,8 @@ Sets f job j own set empty r =
     set_in t job set r ≡ f t
 
 -- the same where the inherited policy is looked at too
-abbrev pub SetsUnder : (Tables → Reply) → ℕ → Job → (own set inherited : JobPolicy) → Bool → Result Unit Refusal → Type 0
+abbrev pub SetsUnder : (Tables → Reply) → ℕ → Job → (own set inherited : JobPolicy) → Bool →
+    Result Unit Refusal → Type 0
 SetsUnder f job j own set inherited empty r =
     (t : Tables) → job_at t (slot job) ≡ j → own_at t (slot job) ≡ own → inherited_at t (slot job) ≡ inherited →
     job_empty t job ≡ empty → set_in t job set r ≡ f t

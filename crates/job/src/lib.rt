@@ -1,5 +1,5 @@
 // job: the calls on a job, over the records that they name. Follows job.rs. Each call stands here once: its refusals in
-// document 01's order, then its effect. specs/Job.antt says what is given means for the tables.
+// document 01's order, then its effect. specs/Job.antt says what a call leaves means for the tables.
 #![tactic(auto)]
 
 ghost use Rattle.std.specs.Prelude.{take, ◌≡◌};

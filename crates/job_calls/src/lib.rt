@@ -1,5 +1,5 @@
 // job_calls: the calls on a job, on the tables by value: 01, 02, 0f, 10 and 1b. Each reads the records that it names,
-// asks crate job, and stores what that gives. What each comes to is in model/specs/JobCalls.antt.
+// asks crate job, and stores what that leaves. What each comes to is in model/specs/JobCalls.antt.
 #![tactic(auto)]
 
 ghost use Rattle.std.specs.Prelude.{take, ◌≡◌};

@@ -1,4 +1,4 @@
--- The calls on a process, over the records that they name: what a call gives, stored where the records were, is what
+-- The calls on a process, over the records that they name: what a call leaves, stored where the records were, is what
 -- the model says of the call, whatever else the tables hold.
 use Rattle.std.specs.Prelude.{ℕ, ◌%◌, ◌≡◌, Bool, true, false, not, ℤ, pos, Result, Ok, Err}
 use Rattle.error.specs.declared.Refusal.{Refusal}

@@ -1,5 +1,6 @@
 // process: the calls on a process, over the records that they name. Follows process.rs. Each call stands here once: its
-// refusals in document 01's order, then its effect. specs/Process.antt says what is given means for the tables.
+// refusals in document 01's order, then its effect. specs/Process.antt says what a call leaves means for
+// the tables.
 #![tactic(auto)]
 
 ghost use Rattle.std.specs.Prelude.{◌≡◌};

@@ -1,5 +1,5 @@
 // process_calls: the calls on a process, on the tables by value: 03 to 07, 11 and 1c. Each reads the records that it
-// names, asks crate process, and stores what that gives. What each comes to is in model/specs/JobCalls.antt.
+// names, asks crate process, and stores what that leaves. What each comes to is in model/specs/JobCalls.antt.
 #![tactic(auto)]
 
 ghost use Rattle.std.specs.Prelude.{◌≡◌};
@@ -14,7 +14,7 @@ use records::reading::{fixed_at, inherited_at, job_at, own_at, process_at, threa
 use records::tables::Tables;
 use reply::Reply;
 
-// -- What a call gave, stored where the records were -------------------------------------------
+// -- What a call left, stored where the records were -------------------------------------------
 
 fn made_in(t: Tables, new: u8, q: Process, fixed: JobPolicy, outcome: Result<(), Refusal>) -> Reply
     ensures { result ≡ made_in t new q fixed outcome }

@@ -194,7 +194,8 @@ task_call_lem t Suspend token kind n k e = rw e
 task_call_lem t Resume token kind n k e = rw e
 
 -- whether a thread concerned bars the change
-pub bars_it : (c : TaskCall) (p : ℕ) (l : List Thread) {k : Each} {x : Changed} → k ≡ each_of c → x ≡ each_unless k p l →
+pub bars_it : (c : TaskCall) (p : ℕ) (l : List Thread) {k : Each} {x : Changed} → k ≡ each_of c →
+    x ≡ each_unless k p l →
     any (has_count p (barring c)) l ≡ x.barred
 unfolding each_of barring
 bars_it CreateToken p l f e = rw (e, f) (full_bars p l)

@@ -78,7 +78,8 @@ stays l = record { parts = []; are = refl }
 along : {l m : Lines} {r : Result Lines Fault} (w : List ℕ) (f : Follows l m) → r ≡ judged m w →
     after l (f.parts ++ w ∷ []) ≡ r
 unfolding and_then
-along {l = l} w f e = after_more l f.parts w ∙ ap (λ (r : Result Lines Fault). and_then r (λ k. judged k w)) f.are ∙ sym e
+along {l = l} w f e =
+    after_more l f.parts w ∙ ap (λ (r : Result Lines Fault). and_then r (λ k. judged k w)) f.are ∙ sym e
 
 pub goes_on_lem : {l m n : Lines} (w : List ℕ) → Follows l m → Ok n ≡ judged m w → Follows l n
 goes_on_lem w f e = record { parts = f.parts ++ w ∷ []; are = along w f e }
@@ -138,11 +139,23 @@ module _ (l : Lines) (w rest : List ℕ) (a at : ℕ) (some : length w ≡ 0 →
     cut_short k h =
         let t : length rest < min (length w) (l.end - l.at) = omega arith in sym
         (some_written l w some
-        ∙ rw (← there, ← agrees, ← place, ne_eqb a (length w) k, lt-ltb (length rest) (min (length w) (l.end - l.at)) t))
+        ∙ rw (
+          ← there,
+          ← agrees,
+          ← place,
+          ne_eqb a (length w) k,
+          lt-ltb (length rest) (min (length w) (l.end - l.at)) t,
+        ))
 
     pub differs : (a ≡ length w → ⊥) → most ≤ length rest → Err (Differs at) ≡ judged l w
     unfolding if◌then◌otherwise◌
     differs k h =
         let t : min (length w) (l.end - l.at) ≤ length rest = omega arith in sym
         (some_written l w some
-        ∙ rw (← there, ← agrees, ← place, ne_eqb a (length w) k, le-ltb (length rest) (min (length w) (l.end - l.at)) t))
+        ∙ rw (
+          ← there,
+          ← agrees,
+          ← place,
+          ne_eqb a (length w) k,
+          le-ltb (length rest) (min (length w) (l.end - l.at)) t,
+        ))

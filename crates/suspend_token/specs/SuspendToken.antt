@@ -1,4 +1,4 @@
--- Suspending, resuming and tokens, over the records that they name: what a call gives, stored where the records were
+-- Suspending, resuming and tokens, over the records that they name: what a call leaves, stored where the records were
 -- and done to each thread of the process where asked, is what the model says of the call, whatever else the tables
 -- hold.
 use Rattle.std.specs.Prelude.{Option, Result, Ok, Err}

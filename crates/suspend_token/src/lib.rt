@@ -2,7 +2,7 @@
 // suspend_token.rs, and `suspend` and `resume` of thread.rs and process.rs. Each call stands here once: its refusals
 // in document 01's order, then its effect. Kind 1 is a process, and each thread that it lists is concerned: `barred`
 // says whether the count of one stands in the way, and an accepted call whether each is to be changed: the one thread
-// is as it was then. specs/SuspendToken.antt says what is given means for the tables.
+// is as it was then. specs/SuspendToken.antt says what a call leaves means for the tables.
 #![tactic(auto)]
 
 ghost use Rattle.std.specs.Prelude.{false, pos, ◌≡◌};

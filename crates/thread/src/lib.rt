@@ -1,5 +1,6 @@
 // thread: the calls on one thread, over its record alone, and its making. Follows thread.rs. Each call stands here
-// once: its refusals in document 01's order, then its effect. specs/Move.antt says what a move means for the tables.
+// once: its refusals in document 01's order, then its effect. specs/Move.antt says what the record
+// as it is left, and the outcome, mean for the tables.
 #![tactic(auto)]
 
 ghost use Rattle.std.specs.Prelude.{◌≡◌};

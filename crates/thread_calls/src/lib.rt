@@ -1,5 +1,5 @@
 // thread_calls: the calls on a thread, on the tables by value: 08 to 0c, 19, 1a and 1d. Each reads the records that it
-// names, asks crate thread, and stores what that gives. What each comes to is in model/specs/ThreadCalls.antt.
+// names, asks crate thread, and stores what that leaves. What each comes to is in model/specs/ThreadCalls.antt.
 #![tactic(auto)]
 
 ghost use Rattle.std.specs.Prelude.{◌≡◌};
@@ -15,7 +15,7 @@ use records::reading::{process_at, thread_at};
 use records::tables::Tables;
 use reply::Reply;
 
-// -- What a call gave, stored where the records were -------------------------------------------
+// -- What a call left, stored where the records were -------------------------------------------
 
 // The records and the outcome of a call on a process and a thread.
 pub fn both_settled(

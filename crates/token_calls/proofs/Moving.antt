@@ -51,7 +51,8 @@ module _ (f : Tables → Reply) (t : Tables) (kind n : ℕ) {v : Thread} {q : Pr
       ∙ s t (concerned 0 (none_bars n t.threads ∙ ap (λ (r : Changed). r.barred) (sym e)))
 
   pub creates : {x : Reply} {d : Changed} (o : ℕ) {k l : SuspendToken} (w : Thread) (r : Result Bool Refusal) {u : Task}
-      (m : Token) → x ≡ token_to t o kind n d.threads m → m ≡ token l u → u ≡ task_by w r → d ≡ each_unless SUSPEND n t.threads →
+      (m : Token) → x ≡ token_to t o kind n d.threads m → m ≡ token l u → u ≡ task_by w r →
+      d ≡ each_unless SUSPEND n t.threads →
       k ≡ token_at t (o % 64) → Creates f o kind n k l v w q j d.barred r → x ≡ f t
   unfolding of_each changed_to token_to token_in changed
   creates o {l = l} w r m p h i e g s =

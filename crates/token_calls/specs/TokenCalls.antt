@@ -1,4 +1,4 @@
--- What a call on a task gave, stored, where the threads after a change of each are at hand.
+-- What a call on a task left, stored, where the threads after a change of each are at hand.
 use Rattle.std.specs.Prelude.{ℕ, ◌%◌, Bool, List}
 use Rattle.laws.specs.Choice.{◌=?◌, ◌and◌, if◌then◌otherwise◌}
 use Rattle.record_thread.specs.declared.Thread.{Thread}

@@ -1,5 +1,5 @@
 // token_calls: suspending and resuming a task, and tokens, on the tables by value: 0d, 0e, 1e and 1f. Each reads the
-// records that it names, asks crate suspend_token, and stores what that gives. What each comes to is in
+// records that it names, asks crate suspend_token, and stores what that leaves. What each comes to is in
 // model/specs/ThreadCalls.antt.
 #![tactic(auto)]
 
@@ -15,7 +15,7 @@ use reply::Reply;
 use suspend_token::{Task, Token};
 use thread_lists::{Each, each_unless};
 
-// -- What a call gave, stored where the records were -------------------------------------------
+// -- What a call left, stored where the records were -------------------------------------------
 
 // Whether each thread of a process is to be changed.
 #[tactic(auto, using(laws::proofs::Flow::branches), unfolding(crate::specs::TokenCalls::of_each))]

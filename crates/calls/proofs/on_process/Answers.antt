@@ -30,4 +30,5 @@ pub returns-in-ProcessChannel : goal.returns-in-ProcessChannel
 unfolding step process_call above_in
 returns-in-ProcessChannel c t p j a =
     rw c.in-ProcessChannel.is
-    (level_settles t _ _ c.process_settled-in-ProcessChannel.ensures (c.on_process-done.ensures t p ∙ level_step _ t _ _))
+    (level_settles t _ _ c.process_settled-in-ProcessChannel.ensures
+    (c.on_process-done.ensures t p ∙ level_step _ t _ _))

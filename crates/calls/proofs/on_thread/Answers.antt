@@ -18,7 +18,8 @@ returns-in-Exit c t h = settled_arm t _ _ c.in-Exit.is c.settled-in-Exit.ensures
 
 pub returns-in-BeginWait : goal.returns-in-BeginWait
 unfolding step thread_call
-returns-in-BeginWait c t h = settled_arm t _ _ c.in-BeginWait.is c.settled-in-BeginWait.ensures (c.begin_wait.ensures t h)
+returns-in-BeginWait c t h =
+    settled_arm t _ _ c.in-BeginWait.is c.settled-in-BeginWait.ensures (c.begin_wait.ensures t h)
 
 pub returns-in-PollWait : goal.returns-in-PollWait
 unfolding step thread_call
@@ -34,12 +35,17 @@ returns-in-SetState c t h = settled_arm t _ _ c.in-SetState.is c.settled-in-SetS
 
 pub returns-in-SetStrategy : goal.returns-in-SetStrategy
 unfolding step thread_call
-returns-in-SetStrategy c t h = settled_arm t _ _ c.in-SetStrategy.is c.settled-in-SetStrategy.ensures (c.set_strategy.ensures t h)
+returns-in-SetStrategy c t h =
+    settled_arm t _ _ c.in-SetStrategy.is c.settled-in-SetStrategy.ensures (c.set_strategy.ensures t h)
 
 pub returns-in-GetProcessHandle : goal.returns-in-GetProcessHandle
 unfolding step thread_call
-returns-in-GetProcessHandle c t h = settled_arm t _ _ c.in-GetProcessHandle.is c.settled-in-GetProcessHandle.ensures (c.get_process_handle.ensures t h)
+returns-in-GetProcessHandle c t h =
+    settled_arm t _ _ c.in-GetProcessHandle.is c.settled-in-GetProcessHandle.ensures
+    (c.get_process_handle.ensures t h)
 
 pub returns-in-ThreadChannel : goal.returns-in-ThreadChannel
 unfolding step thread_call
-returns-in-ThreadChannel c t h = settled_arm t _ _ c.in-ThreadChannel.is c.settled-in-ThreadChannel.ensures (c.on_thread.ensures t h ∙ level_step _ t _ _)
+returns-in-ThreadChannel c t h =
+    settled_arm t _ _ c.in-ThreadChannel.is c.settled-in-ThreadChannel.ensures
+    (c.on_thread.ensures t h ∙ level_step _ t _ _)

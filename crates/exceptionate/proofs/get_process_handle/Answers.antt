@@ -19,7 +19,8 @@ returns-in_default c t h = no_thread t _ _ h c.if-thread-ge128.false c.found.ens
 pub returns-in_default-exception : goal.returns-in_default-exception
 unfolding get_process_handle
 returns-in_default-exception c t h =
-    no_exception t _ _ h c.if-thread-ge128.false c.found.ensures c.in-Some.is c.exception.ensures c.in_default-exception.is
+    no_exception t _ _ h c.if-thread-ge128.false c.found.ensures c.in-Some.is c.exception.ensures
+    c.in_default-exception.is
 
 pub returns-then-current-eq2 : goal.returns-then-current-eq2
 unfolding get_process_handle
@@ -31,4 +32,5 @@ pub returns : goal.returns
 unfolding get_process_handle
 returns c t h =
     held t _ _ h c.if-thread-ge128.false c.found.ensures c.in-Some.is c.exception.ensures c.in-Some-exception.is
-    (passes (answered t) _ _ (ne_eqb _ 2 (λ e. c.if-current-eq2.false (c.current.ensures ∙ e))) (accepts t (kept t _ h)))
+    (passes (answered t) _ _ (ne_eqb _ 2 (λ e. c.if-current-eq2.false (c.current.ensures ∙ e)))
+    (accepts t (kept t _ h)))

@@ -7,7 +7,8 @@ use Rattle.exceptionate.proofs.Moving.{channel_of_thread, past, unmade, refused,
 use Rattle.exceptionate.proofs.on_thread.Goals as goal
 
 pub returns-then-thread-ge128 : goal.returns-then-thread-ge128
-returns-then-thread-ge128 c t h = past _ (channel_of_thread t _ h) c.if-thread-ge128.true (settles_refused t _ PastTable h)
+returns-then-thread-ge128 c t h =
+    past _ (channel_of_thread t _ h) c.if-thread-ge128.true (settles_refused t _ PastTable h)
 
 pub returns-in_default : goal.returns-in_default
 returns-in_default c t h =
@@ -17,7 +18,8 @@ returns-in_default c t h =
 pub returns-in_err-v : goal.returns-in_err-v
 returns-in_err-v c t h =
     let p = err_from_is_err_and c.from_residual.result c.from_residual.ensures.1 in
-    rw (p.1, p.2) (refused _ (channel_of_thread t _ h) c.if-thread-ge128.false (the_thread _ c.found.ensures c.in-Some.is)
+    rw (p.1, p.2)
+    (refused _ (channel_of_thread t _ h) c.if-thread-ge128.false (the_thread _ c.found.ensures c.in-Some.is)
     (sym c.after.ensures ∙ c.in_err-v.was) (settles_refused t _ _ h))
 
 pub returns : goal.returns

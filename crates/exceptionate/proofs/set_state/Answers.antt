@@ -19,7 +19,8 @@ returns-in_default c t h = no_thread t _ _ h c.if-thread-ge128.false c.found.ens
 pub returns-in_default-exception : goal.returns-in_default-exception
 unfolding set_state
 returns-in_default-exception c t h =
-    no_exception t _ _ h c.if-thread-ge128.false c.found.ensures c.in-Some.is c.exception.ensures c.in_default-exception.is
+    no_exception t _ _ h c.if-thread-ge128.false c.found.ensures c.in-Some.is c.exception.ensures
+    c.in_default-exception.is
 
 pub returns-then-state-gt1 : goal.returns-then-state-gt1
 unfolding set_state

@@ -33,5 +33,6 @@ returns-then-not-is_init c t h k = search pairs depth 20
 pub returns : goal.returns
 unfolding start_process with_started
 returns c t h k =
-    let e = both_stored t _ _ _ _ c.with_status.ensures c.start.ensures c.if-process-ge64.false c.if-thread-ge128.false in
+    let e = both_stored t _ _ _ _ c.with_status.ensures c.start.ensures c.if-process-ge64.false
+    c.if-thread-ge128.false in
     search (pairs, e) depth 20

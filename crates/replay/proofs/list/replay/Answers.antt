@@ -13,7 +13,8 @@ returns-in_err-lines c =
 
 pub returns-then-r : goal.returns-then-r
 returns-then-r c =
-    finishes _ (goes_on_lem _ c.loop-lines.invariant.follows (sym c.in_ok-lines.was ∙ c.compare.ensures)) c.ended.ensures
+    finishes _ (goes_on_lem _ c.loop-lines.invariant.follows (sym c.in_ok-lines.was ∙ c.compare.ensures))
+    c.ended.ensures
 
 pub loop-lines-preserved : goal.loop-lines-preserved
 loop-lines-preserved c = elim c.if-r-eq0.branch [
