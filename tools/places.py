@@ -75,7 +75,7 @@ def own_kinds(file, text):
 
 def loops(file, text):
     for name, body in functions(text):
-        for loop in re.findall(r"\bwhile [^\n{]*[<>][^\n{]*|\bfor \w+ in \d+\.\.[^\n{]*", body):
+        for loop in re.findall(r"\bwhile [^\n{]*[<>][^\n{]*|\bfor \w+ in [^\n{]*\.\.[^\n{]*", body):
             yield "%s: %s" % (name, loop.strip())
 
 
@@ -108,7 +108,7 @@ def buffers(file, text):
 
 def switches(file, text):
     for name, body in functions(text):
-        calls = len(re.findall(r"=> (?:\w+\()?\w+(?:::\w+)*\(", body))
+        calls = len(re.findall(r"=> (?:\w+\()?\w+(?:(?:::|\.)\w+)*\(", body))
         arms = len(re.findall(r" => ", body))
         if arms > 1 and calls == arms:
             yield "%s: %d steps by a match" % (name, arms)
@@ -125,7 +125,7 @@ def twins(root):
             plain = re.sub(r"\b\w+\b", lambda m: m.group(0) if m.group(0) in
                            ("if", "let", "return", "while", "match", "self", "mut", "fn", "as", "for", "in", "else")
                            else "x", code)
-            plain = re.sub(r"\s+", " ", plain)
+            plain = re.sub(r",? ?\)", ")", re.sub(r"\s+", " ", plain)).replace("( ", "(")
             if plain.count("x") > 12:
                 groups[plain].append("%s: %s" % (file, name))
     return [g for g in groups.values() if len(g) > 1]

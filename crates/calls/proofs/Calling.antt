@@ -1,31 +1,43 @@
 -- The call that a command's bytes stand for, where its first three bytes were read and the match has found the code.
 --     call_at_lem        a code that was found
 --     no_other       a code that is none of the 31
---     policy_call    0f, where a count above 4 is no command; slack_call    10
---     bad_is         a level that is none of the five
 -- Assumes nothing.
-use Prim.Native.Nat.{ℕ, suc, ◌≤◌}
-use native.Mathlib.Omega.{arith}
+use Prim.Native.Nat.{ℕ, ◌≤◌, ◌<◌}
 use mathlib.Core.Path.{◌≡◌, refl, sym, ◌∙◌, ap}
-use mathlib.Core.Bool.{Bool, true, false}
 use mathlib.Core.List.{List, [], ◌∷◌}
-use lib.IntN.{ℤ}
 use lib.ListN.{take}
 use lib.Seq.{take-append-le}
-use borrow.Author.Tests.{ltb-false, ne_eqb}
-use Rattle.laws.specs.Choice.{◌=?◌, ◌<?◌, ◌or◌, if◌then◌otherwise◌}
+use borrow.Author.Tests.{le-ltb, lt-ltb, ne_eqb}
 use Rattle.job_policy.specs.declared.BasicPolicy.{BasicPolicy}
+use Rattle.records.specs.declared.tables.Tables.{Tables}
+use Rattle.std.proofs.Common.{Result}
+use Rattle.error.specs.declared.Refusal.{Refusal}
+use Rattle.error.specs.Numbers.{answer_of}
+use Rattle.exception.specs.declared.Raised.{Raised}
+use Rattle.exception.specs.Raise.{raised_in}
+use Rattle.reply.specs.declared.Information.{Information}
+use Rattle.reply.specs.declared.Reply.{Reply}
+use Rattle.reply.specs.declared.Shown.{Shown}
+use Rattle.reply.specs.Reply.{answered, informed, showing, Shows, shown_answer, shown_by}
+use Rattle.model.specs.JobCalls.{set_policy_basic}
+use Rattle.model.specs.Step.{step}
+use Rattle.laws.specs.Choice.{if◌then◌otherwise◌}
 use Rattle.commands.specs.Commands.{byte, pairs_at, no_pair, fifteen_at}
-use Rattle.model.specs.Step.{cmd0f, cmd10}
-use Rattle.calls.specs.declared.Command.{Command}
-use Rattle.calls.specs.declared.Command.TheVariants.{NoCall, OnJob}
-use Rattle.calls.specs.declared.JobCall.TheVariants.{SetPolicy}
-use Rattle.calls.specs.Calls.{no_call, called, call_by, call_at}
-use Rattle.calls.specs.Groups.{job_call, bad_of, call_of, policy_command}
+use Rattle.calls.specs.Calls.{no_call, call_by, call_at, perform, policy_call}
 
 pub call_at_lem : (bs : List ℕ) {a b code : ℕ} (k : ℕ) → a ≡ byte bs 1 → b ≡ byte bs 2 → code ≡ byte bs 0 → code ≡ k →
     call_by k a b (byte bs 3) bs ≡ call_at bs
 call_at_lem bs k first second e m = rw (sym m ∙ e, first, second)
+
+-- what a call comes to, by the code that was found
+module _ (t : Tables) (bs : List ℕ) {a b code : ℕ} {x : Reply} where
+  pub here : (k : ℕ) → a ≡ byte bs 1 → b ≡ byte bs 2 → code ≡ byte bs 0 → code ≡ k →
+      x ≡ perform t (call_by k a b (byte bs 3) bs) → x ≡ perform t (call_at bs)
+  here k first second e m h = h ∙ ap (perform t) (call_at_lem bs k first second e m)
+
+  pub nowhere : a ≡ byte bs 1 → b ≡ byte bs 2 → code ≡ byte bs 0 → call_by code a b (byte bs 3) bs ≡ no_call →
+      x ≡ perform t no_call → x ≡ perform t (call_at bs)
+  nowhere first second e n h = h ∙ ap (perform t) (sym n ∙ call_at_lem bs code first second e refl)
 
 pub no_other : (n a b c : ℕ) (bs : List ℕ) → (n ≡ 1 → ⊥) → (n ≡ 2 → ⊥) → (n ≡ 3 → ⊥) → (n ≡ 4 → ⊥) →
     (n ≡ 5 → ⊥) → (n ≡ 6 → ⊥) → (n ≡ 7 → ⊥) → (n ≡ 8 → ⊥) → (n ≡ 9 → ⊥) → (n ≡ 10 → ⊥) → (n ≡ 11 → ⊥) →
@@ -77,42 +89,31 @@ no_pairs : List BasicPolicy
 no_pairs =
     no_pair ∷ no_pair ∷ no_pair ∷ no_pair ∷ no_pair ∷ no_pair ∷ no_pair ∷ no_pair ∷ no_pair ∷ no_pair ∷ no_pair ∷ []
 
-by_count : (above : Bool) (j option n : ℕ) (bs : List ℕ) → (above ≡ false → n ≤ 4) →
-    call_of (if above then NoCall otherwise OnJob (SetPolicy option n) j) (fifteen_at bs)
-    ≡ (if above then no_call otherwise called (cmd0f j option (take n (pairs_at bs))))
-unfolding call_of job_call if◌then◌otherwise◌ no_pairs
-by_count true j option n bs h = refl
-by_count false j option n bs h =
-    ap (λ (l : List BasicPolicy). called (cmd0f j option l)) (take-append-le n (pairs_at bs) no_pairs (h refl))
+module _ (t : Tables) (j option : ℕ) (bs : List ℕ) {n : ℕ} (count : n ≡ byte bs 3) where
+  -- more than four entries are no command
+  pub above_four : {x : Reply} → 4 < n → x ≡ perform t no_call → x ≡ perform t (policy_call j option (byte bs 3) bs)
+  unfolding if◌then◌otherwise◌
+  above_four h e = e ∙ rw (← count, lt-ltb 4 n h) refl
 
-pub policy_call : (j option n : ℕ) (bs : List ℕ) {r : Command} → r ≡ policy_command j option n →
-    call_of r (fifteen_at bs) ≡ (if 4 <? n then no_call otherwise called (cmd0f j option (take n (pairs_at bs))))
-unfolding policy_command
-policy_call j option n bs e = rw e (by_count (4 <? n) j option n bs (λ h. ltb-false 4 n h))
+  -- of the fifteen that are read the four are the command's
+  pub up_to_four : {x : Reply} {l : List BasicPolicy} → n ≤ 4 → l ≡ fifteen_at bs →
+      x ≡ set_policy_basic t j option (take n l) → x ≡ perform t (policy_call j option (byte bs 3) bs)
+  unfolding perform step if◌then◌otherwise◌ no_pairs
+  up_to_four {x} {l} h e f =
+      f ∙ rw (e, ← count, le-ltb 4 n h) (ap (set_policy_basic t j option) (take-append-le n (pairs_at bs) no_pairs h))
 
--- ---- 10 ------------------------------------------------------------------------------------------------
+-- ---- What is shown, by the outcome ---------------------------------------------------------------------
 
-pub slack_call : (j : ℕ) {x y : ℤ} {m n : ℕ} → x ≡ y → m ≡ n → called (cmd10 j x m) ≡ called (cmd10 j y n)
-slack_call j p q = rw (p, q)
+module _ (t : Tables) {m : Shown} {x : Reply} where
+  pub settles : (r : Result Unit Refusal) → m ≡ shown_answer (answer_of r) → answered t (answer_of r) ≡ x →
+      showing t m ≡ x
+  unfolding showing answered
+  settles r e h = rw e h
 
--- ---- 12, 13 --------------------------------------------------------------------------------------------
+  pub informs : (r : Result Information Refusal) → m ≡ shown_by r → informed t r ≡ x → showing t m ≡ x
+  unfolding informed
+  informs r e h = rw e h
 
-by_tests : (zeroth above : Bool) (n : ℕ) → (zeroth ≡ false → above ≡ false → 0 ≡ n) →
-    (if zeroth or above then n otherwise 0) ≡ n
-unfolding ◌or◌ if◌then◌otherwise◌
-by_tests true above n h = refl
-by_tests false true n h = refl
-by_tests false false n h = h refl refl
-
--- one less, where it is not the last
-less : (n k : ℕ) → n ≤ suc k → (n ≡ suc k → ⊥) → n ≤ k
-less n k h d = omega arith
-
-nought : (n : ℕ) → n ≤ 0 → 0 ≡ n
-nought n h = omega arith
-
-pub bad_is : (n : ℕ) → (n ≡ 1 → ⊥) → (n ≡ 2 → ⊥) → (n ≡ 3 → ⊥) → (n ≡ 4 → ⊥) → (n ≡ 5 → ⊥) → bad_of n ≡ n
-unfolding bad_of
-bad_is n h1 h2 h3 h4 h5 =
-    by_tests (n =? 0) (5 <? n) n
-    (λ z a. nought n (less n 0 (less n 1 (less n 2 (less n 3 (less n 4 (ltb-false 5 n a) h5) h4) h3) h2) h1))
+pub raises : (t : Tables) (m : Shown) {x : Reply} (r : Result Raised Refusal) →
+    Shows (λ u. raised_in u r) m → raised_in t r ≡ x → showing t m ≡ x
+raises t m r e h = e t ∙ h

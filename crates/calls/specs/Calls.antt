@@ -18,6 +18,11 @@ pub data Called : Type 0 where
   no_call : Called
   called : Call → Called
 
+-- 0f: a count above 4 is no command
+abbrev pub policy_call : (job option count : ℕ) → List ℕ → Called
+policy_call job option count bs =
+    if 4 <? count then no_call otherwise called (cmd0f job option (take count (pairs_at bs)))
+
 unfoldable pub call_by : (code a b c : ℕ) → List ℕ → Called
 call_by code a b c bs =
     if code =? 0x01 then called (cmd01 a b) otherwise
@@ -34,7 +39,7 @@ call_by code a b c bs =
     if code =? 0x0c then called (cmd0c a) otherwise
     if code =? 0x0d then called (cmd0d a b c) otherwise
     if code =? 0x0e then called (cmd0e a) otherwise
-    if code =? 0x0f then (if 4 <? c then no_call otherwise called (cmd0f a b (take c (pairs_at bs)))) otherwise
+    if code =? 0x0f then policy_call a b c bs otherwise
     if code =? 0x10 then called (cmd10 a (signed64 (long bs 2)) (byte bs 10)) otherwise
     if code =? 0x11 then called (cmd11 a b) otherwise
     if code =? 0x12 then called (cmd12 a b) otherwise

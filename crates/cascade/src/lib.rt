@@ -1,7 +1,7 @@
 // cascade: killing a job, exiting a process and ending a process, which call one another. Follows job.rs and
-// process.rs. Each of the three has one local of the tables, and lends and indexes none: the deepest cascade stays small
-// on the stack. What they ask of a table stands in a function that is not inlined, by value, since a lent table would
-// cost each frame of the cycle two more locals.
+// process.rs. Each of the three has one local of the tables, and lends and indexes none: the deepest cascade stays
+// small on the stack. What they ask of a table stands in a function that is not inlined, by value, since a lent table
+// would cost each frame of the cycle two more locals.
 #![tactic(auto)]
 
 ghost use Rattle.std.specs.Prelude.{◌≡◌};
@@ -49,7 +49,9 @@ fn lists_thread(t: Tables, p: u8) -> bool
     any_on(&t.threads, p)
 }
 
-// The next child of job j from a name on.
+// The next child of job j from a name on. Apart from its twin: a table lent within the cycle would cost each frame of
+// the cascade two tables more.
+#[tactic(auto, using(listed::proofs::Next::next_small, laws::proofs::Loops::length_mapped))]
 #[inline(never)]
 fn next_child(t: Tables, j: u8, from: u8) -> Option<u8>
     ensures { result ≡ next_in (λ v. child_of v j) t.jobs from }
@@ -58,6 +60,7 @@ fn next_child(t: Tables, j: u8, from: u8) -> Option<u8>
 }
 
 // Its next process.
+#[tactic(auto, using(listed::proofs::Next::next_small, laws::proofs::Loops::length_mapped))]
 #[inline(never)]
 fn next_process(t: Tables, j: u8, from: u8) -> Option<u8>
     ensures { result ≡ next_in (λ q. member_of q j) t.processes from }
@@ -72,7 +75,7 @@ fn next_process(t: Tables, j: u8, from: u8) -> Option<u8>
 fn stop_threads(mut t: Tables, p: u8) -> Tables
     ensures { result ≡ stop_threads t p }
 {
-    t.threads = each_thread(t.threads, p, Each::Kill);
+    each_thread(&mut t.threads, p, Each::Kill);
     t
 }
 

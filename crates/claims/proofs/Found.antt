@@ -3,7 +3,7 @@
 use Rattle.std.proofs.Common.{Option, Some, None}
 use Prim.Native.Nat.{ℕ}
 use native.Mathlib.Omega.{arith}
-use mathlib.Core.Path.{◌≡◌, refl, ap}
+use mathlib.Core.Path.{◌≡◌, ap}
 use mathlib.Core.Bool.{true}
 use lib.IntN.{ℤ, pos}
 use Rattle.laws.specs.Guarded.{found, missing, Guarded}
@@ -16,7 +16,7 @@ use Rattle.record_thread.specs.declared.Waiting.{Waiting}
 use Rattle.record_thread.specs.declared.Waiting.TheVariants.{NotWaiting, InWait, InException}
 use Rattle.record_thread.specs.declared.Thread.{Thread}
 use Rattle.record_thread.specs.Thread.{held_in}
-use Rattle.record_token.specs.declared.SuspendToken.{SuspendToken}
+use Rattle.record_token.specs.declared.Task.{Task}
 use Rattle.records.specs.declared.tables.Tables.{Tables}
 use Rattle.reply.specs.declared.Reply.{Reply}
 use Rattle.reply.specs.Reply.{answered}
@@ -35,6 +35,11 @@ missing≢found {A} {c = c} {v = v} e = absurd (let z : ◌≡◌ {A = ℕ} 0 1 
 
 found_inj : {A : Type 0} {v w : A} → found v ≡ found w → v ≡ w
 found_inj {A} {v} {w} e = cc
+
+present_is : {A : Type 0} (f : Option A) {v : A} → present f ≡ found v → f ≡ Some v
+unfolding present
+present_is None e = missing≢found e
+present_is (Some w) e = ap (λ x. Some x) (found_inj e)
 
 module _ (t : Tables) (i : ℕ) where
   pub job_is : (v : Job) → job t i ≡ found v → ((job_at t i).made ≡ true) × (job_at t i ≡ v)
@@ -58,20 +63,12 @@ module _ (t : Tables) (i : ℕ) where
       if_on (λ x. present x ≡ found v → ((thread_at t i).made ≡ true) × (thread_at t i ≡ v)) _ _ _
       (λ m e. (m, found_inj e)) (λ m e. missing≢found e)
 
-  pub token_is : (v : SuspendToken) → token t i ≡ found v
-      → ((token_at t i).held ≡ true) × (token_at t i ≡ v)
-  unfolding present found_token
-  token_is v =
-      if_on (λ x. present x ≡ found v → ((token_at t i).held ≡ true) × (token_at t i ≡ v)) _ _ _
-      (λ m e. (m, found_inj e)) (λ m e. missing≢found e)
+  pub token_is : (a : Task) → token t i ≡ found a → (token_at t i).task ≡ Some a
+  unfolding found_token
+  token_is a = present_is (token_at t i).task
 
   pub task_is : (kind : ℕ) (v : Unit) → task t kind i ≡ found v → found_task t kind i ≡ Some tt
-  unfolding present
-  task_is kind v e = go (found_task t kind i) e
-    where
-      go : (f : Option Unit) → present f ≡ found v → f ≡ Some tt
-      go None e = missing≢found e
-      go (Some v) e = refl
+  task_is kind v = present_is (found_task t kind i)
 
   pub thread_level_is : (l : Level) → present (level_of_thread (found_thread t i)) ≡ found l
       → ((thread_at t i).made ≡ true) × ((thread_at t i).level2 ≡ l)

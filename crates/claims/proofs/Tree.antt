@@ -1,5 +1,6 @@
 -- `Tree` holds at the start (`fresh_tree`), and after every call (`tree_step`). Assumes nothing.
 use Rattle.std.proofs.Common.{Some, None}
+use Rattle.std.proofs.lemmas.Option.{none-some}
 use Prim.Native.Nat.{ℕ, zero, suc}
 use native.Mathlib.Omega.{arith}
 use mathlib.Core.Path.{◌≡◌, refl, sym, subst}
@@ -53,7 +54,7 @@ pub mod ExceptionCalls
 -- ---- At the start ----------------------------------------------------------------------------
 
 -- a table of unmade records
-same_at : {A : Type 0} (d : A) (n i : ℕ) → get_or (replicate n d) i d ≡ d
+pub same_at : {A : Type 0} (d : A) (n i : ℕ) → get_or (replicate n d) i d ≡ d
 same_at d zero i = refl
 same_at d (suc n) zero = refl
 same_at d (suc n) (suc i) = same_at d n i
@@ -151,9 +152,9 @@ no_token_good : (t : Tables) → GoodToken t no_token
 no_token_good t =
     record {
       unmade = λ h. refl;
-      held_made = λ h. h;
-      held_kind = λ h. no_both h refl;
-      task_made = λ h. no_both h refl;
+      held_made = λ a h. absurd (none-some _ h);
+      held_kind = λ a h. absurd (none-some _ h);
+      task_made = λ a h. absurd (none-some _ h);
     }
 
 fresh_sized : Sized fresh_tables

@@ -1,7 +1,7 @@
 -- The invariants of every state that calls from a fresh root leave.
 use Rattle.std.specs.Prelude.{Some, None}
 use Rattle.std.specs.Prelude.{ℕ, ◌<◌, ◌≡◌, Bool, true, false, List}
-use Rattle.laws.specs.Choice.{◌or◌, ◌=?◌}
+use Rattle.laws.specs.Choice.{◌=?◌}
 use Rattle.job_policy.specs.Policy.{no_policy}
 use Rattle.record_exception.specs.declared.Place.TheVariants.{OfJob, OfJobDebugger}
 use Rattle.record_exception.specs.declared.Exception.{Exception}
@@ -10,7 +10,9 @@ use Rattle.record_job.specs.Job.{no_job}
 use Rattle.record_process.specs.Process.{critical_to, no_process, is_exited}
 use Rattle.record_thread.specs.declared.Waiting.TheVariants.{NotWaiting, InException}
 use Rattle.record_thread.specs.Thread.{DEAD, no_thread}
-use Rattle.record_token.specs.SuspendToken.{no_token}
+use Rattle.record_token.specs.declared.Kind.TheVariants.{Job}
+use Rattle.record_token.specs.declared.Task.{Task}
+use Rattle.record_token.specs.SuspendToken.{no_token, number}
 use Rattle.records.specs.declared.tables.Tables.{Tables}
 use Rattle.records.specs.Tables.{job_at, own_at, inherited_at, process_at, fixed_at, thread_at, token_at}
 use Rattle.records.specs.Tables.{fresh_tables, Sized}
@@ -42,12 +44,11 @@ pub record Tree (t : Tables) : Type 0 where
   pub job_made : (p : ℕ) → (process_at t p).made ≡ true → (job_at t (process_at t p).job).made ≡ true
   pub process_made : (n : ℕ) → (thread_at t n).made ≡ true →
       (process_at t (thread_at t n).process).made ≡ true
-  -- a token that is held is made, and so is its task, a process or a thread
-  pub held_made : (k : ℕ) → (token_at t k).held ≡ true → (token_at t k).made ≡ true
-  pub held_kind : (k : ℕ) → (token_at t k).held ≡ true →
-      ((token_at t k).kind =? 1) or ((token_at t k).kind =? 2) ≡ true
-  pub task_made : (k : ℕ) → (token_at t k).held ≡ true →
-      found_task t (token_at t k).kind (token_at t k).name ≡ Some tt
+  -- a token that holds a task is made, and so is the task, a process or a thread
+  pub held_made : (k : ℕ) (a : Task) → (token_at t k).task ≡ Some a → (token_at t k).made ≡ true
+  pub held_kind : (k : ℕ) (a : Task) → (token_at t k).task ≡ Some a → a.kind ≡ Job → ⊥
+  pub task_made : (k : ℕ) (a : Task) → (token_at t k).task ≡ Some a →
+      found_task t (number a.kind) a.name ≡ Some tt
   -- a job terminates only once killed; until then it is on its parent's list, and then on none
   pub terminated_killed : (j : ℕ) → (job_at t j).terminated ≡ true → (job_at t j).killed ≡ true
   pub job_listed : (j p : ℕ) → (job_at t j).parent ≡ Some p → (job_at t j).terminated ≡ false →

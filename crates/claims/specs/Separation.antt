@@ -5,8 +5,10 @@
 -- using only its names. Then the second trip's calls get the same answers and fields, and the
 -- records under its names are the same in the end, as if the first trip's calls had been left out.
 use Rattle.record_process.specs.Process.{critical_to}
-use Rattle.std.specs.Prelude.{ℕ, ◌≡◌, Bool, true, false, List, [], ◌∷◌}
+use Rattle.std.specs.Prelude.{Some, ℕ, ◌≡◌, Bool, true, false, List, [], ◌∷◌}
 use Rattle.laws.specs.Choice.{◌≤?◌, ◌<?◌, ◌or◌, if◌then◌otherwise◌}
+use Rattle.record_token.specs.declared.Task.{Task}
+use Rattle.record_token.specs.SuspendToken.{number}
 use Rattle.records.specs.declared.tables.Tables.{Tables}
 use Rattle.records.specs.Tables.{job_at, own_at, inherited_at, process_at, fixed_at, thread_at, token_at}
 use Rattle.records.specs.Tables.{fresh_tables}
@@ -42,8 +44,8 @@ pub record IsTrip (t : Tables) (x : Trip) : Type 0 where
       x.processes p ≡ x.jobs (process_at t p).job
   pub threads : (n : ℕ) → (thread_at t n).made ≡ true →
       x.threads n ≡ x.processes (thread_at t n).process
-  pub tokens : (k : ℕ) → (token_at t k).held ≡ true →
-      x.tokens k ≡ task_of x (token_at t k).kind (token_at t k).name
+  pub tokens : (k : ℕ) (a : Task) → (token_at t k).task ≡ Some a →
+      x.tokens k ≡ task_of x (number a.kind) a.name
 
 -- no name is shared
 pub record Apart (x y : Trip) : Type 0 where

@@ -10,6 +10,7 @@ ghost use Rattle.claims.specs.SeparationRows.{SeparationRows};
 ghost use Rattle.claims.specs.StopsWhole.{StopsWhole};
 
 // Carries the claims as its promise.
+#[tactic(auto, using(crate::proofs::Closings::closings, crate::proofs::Separation::Rows::separation_rows, crate::proofs::Separation::Whole::separation, crate::proofs::Sound::reachable, crate::proofs::StopsWhole::stops_whole))]
 pub fn claims() -> bool
     ensures { (result ≡ true) × Reachable × StopsWhole × Closings × Separation × SeparationRows }
 {

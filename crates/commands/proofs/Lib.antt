@@ -2,5 +2,4 @@
 pub mod Signed
 pub mod Sizes
 pub mod Fronts
-pub mod Pairs
 pub mod Stays

@@ -2,7 +2,7 @@
 // Past the end of its bytes a command has zeros: no reader relies on its caller.
 #![tactic(auto)]
 
-ghost use Rattle.std.specs.Prelude.{◌≡◌, ◌+◌, ◌*◌};
+ghost use Rattle.std.specs.Prelude.{◌≡◌};
 ghost use Rattle.commands.specs.Commands.{byte, half, word, long, signed64, pair_at, fifteen_at};
 ghost use Rattle.commands.specs.Commands.{size_of, next_of};
 
@@ -55,11 +55,11 @@ pub fn value_at(s: &[u8]) -> i64
     ])
 }
 
-// Pair k of 0f: a condition and an action.
-fn pair_at(s: &[u8], k: u8) -> BasicPolicy
-    ensures { result ≡ pair_at s.now (4 + 2 * k) }
+// A pair of 0f, at byte i: a condition and an action.
+fn pair_at(s: &[u8], i: u8) -> BasicPolicy
+    ensures { result ≡ pair_at s.now i }
 {
-    let at = 4 + 2 * k as usize;
+    let at = i as usize;
     BasicPolicy {
         condition: byte_at(s, at),
         action: byte_at(s, at + 1),
@@ -67,7 +67,6 @@ fn pair_at(s: &[u8], k: u8) -> BasicPolicy
 }
 
 // The four pairs of 0f, from byte 4, and eleven entries that no command has.
-#[tactic(auto, using(crate::proofs::Pairs::one_more))]
 pub fn fifteen_at(s: &[u8]) -> [BasicPolicy; 15]
     ensures { result ≡ fifteen_at s.now }
 {
@@ -76,9 +75,7 @@ pub fn fifteen_at(s: &[u8]) -> [BasicPolicy; 15]
         action: 0,
     };
     let mut policies = [none; 15];
-    for i in 0..4 {
-        policies[i] = pair_at(s, i as u8);
-    }
+    policies[..4].copy_from_slice(&[pair_at(s, 4), pair_at(s, 6), pair_at(s, 8), pair_at(s, 10)]);
     policies
 }
 

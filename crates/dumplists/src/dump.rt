@@ -31,6 +31,7 @@ struct Actions(JobPolicy);
 
 impl Display for Actions {
     fn fmt<W: fmt::Write>(&self, f: &mut fmt::Formatter<W>) -> fmt::Result {
+        // Counted: a condition is a number, and `get_action` says what its entry means.
         for condition in 0..PolicyCondition::COUNT {
             let action = OrDash(self.0.get_action(condition));
             write!(f, "{action}")?;
@@ -190,11 +191,11 @@ fn write_thread(text: &mut String, name: usize, v: Thread) -> Result<(), AllocEr
 }
 
 fn write_token(text: &mut String, name: usize, v: SuspendToken) -> Result<(), AllocError> {
-    if !v.held {
+    let Some(held) = v.found() else {
         return writeln!(text, "token {name} dropped");
-    }
-    let kind = v.kind;
-    let task = v.name;
+    };
+    let kind = held.kind.number();
+    let task = held.name;
     writeln!(text, "token {name} held {kind} {task}")
 }
 

@@ -1,5 +1,7 @@
 // error: why a call is refused, and the number that says so. `ZxError` has those of error.rs that the scope names,
-// unchanged; `Refusal` has the port's own besides, by which a call is turned back before the Rust would be asked.
+// unchanged; `Refusal` has the port's own besides, by which a call is turned back before the Rust would be asked. Four
+// of the Rust's are outcomes and no refusals: TimedOut, ShouldWait, Canceled and Stop, with which a call may have
+// changed a record.
 #![tactic(auto)]
 
 ghost use Rattle.std.specs.Prelude.{◌≡◌};
@@ -21,26 +23,6 @@ pub enum ZxError {
 }
 
 impl ZxError {
-    pub const INVALID_ARGS: i64 = -10;
-
-    pub const BAD_STATE: i64 = -20;
-
-    pub const TIMED_OUT: i64 = -21;
-
-    pub const SHOULD_WAIT: i64 = -22;
-
-    pub const CANCELED: i64 = -23;
-
-    pub const ALREADY_EXISTS: i64 = -26;
-
-    pub const ALREADY_BOUND: i64 = -27;
-
-    pub const ACCESS_DENIED: i64 = -30;
-
-    pub const STOP: i64 = -60;
-
-    pub const NEXT: i64 = -61;
-
     pub fn number(self) -> i64
         ensures { result ≡ zx_number self }
     {
@@ -88,20 +70,6 @@ impl From<ZxError> for Refusal {
 }
 
 impl Refusal {
-    pub const PAST_TABLE: i64 = 101;
-
-    pub const USED: i64 = 102;
-
-    pub const NOT_MADE: i64 = 103;
-
-    pub const BAD_FIELD: i64 = 104;
-
-    pub const OUT_OF_TURN: i64 = 105;
-
-    pub const PANICS: i64 = 106;
-
-    pub const FULL: i64 = 107;
-
     pub fn number(self) -> i64
         ensures { result ≡ number_of self }
     {

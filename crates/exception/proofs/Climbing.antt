@@ -10,15 +10,13 @@ use lib.ListN.{length, get_or, set}
 use lib.Seq.{get_or-set_same}
 use Rattle.laws.proofs.Flow.{yes, no}
 use Rattle.laws.proofs.Tables.{read_past, write_past}
-use Rattle.record_exception.specs.declared.Level.{Level}
 use Rattle.record_exception.specs.declared.Place.{Place}
 use Rattle.record_exception.specs.Channel.{is_bound}
 use Rattle.record_job.specs.declared.Job.{Job}
 use Rattle.record_job.specs.Job.{no_job}
 use Rattle.model.specs.Job.{on_parent}
 use Rattle.model.proofs.Upward.{no_parent, with_parent}
-use Rattle.exception.specs.declared.Climbed.{Climbed}
-use Rattle.exception.specs.Seek.{level_in, passed_in, job_place, climbed, climbing}
+use Rattle.exception.specs.Seek.{Climbed, level_in, passed_in, job_place, climbed, climbing}
 
 pub up_out : (m : ℕ) (d : Bool) (jobs : List Job) (j : ℕ) → 0 ≡ m → climbed None jobs ≡ climbing m d jobs j
 unfolding climbing
@@ -42,10 +40,10 @@ module _ (k m : ℕ) (s : suc k ≡ m) (d : Bool) (jobs : List Job) (j : ℕ) wh
       (no_parent _ _ refl refl))
       ∙ steps
 
-  module _ {l : Level} {b : Bool} (e : l ≡ level_in d (get_or jobs j no_job)) (f : b ≡ is_bound l) where
+  module _ {b : Bool} (e : b ≡ is_bound (level_in d (get_or jobs j no_job))) where
     pub up_bound : {p : Place} → b ≡ true → p ≡ job_place d j → climbed (Some p) jobs ≡ climbing m d jobs j
     unfolding climbing
-    up_bound g q = yes _ _ (rw (← e, ← f) g) (rw q) ∙ steps
+    up_bound g q = yes _ _ (sym e ∙ g) (rw q) ∙ steps
 
     module _ (g : b ≡ false) {w : Job} (x : w ≡ passed_in d (get_or jobs j no_job)) (len : length jobs ≡ 32)
         (h : j < 32) where
@@ -54,7 +52,7 @@ module _ (k m : ℕ) (s : suc k ≡ m) (d : Bool) (jobs : List Job) (j : ℕ) wh
           y ≡ climbing m d jobs j
       unfolding climbing
       there z =
-          no _ _ (rw (← e, ← f) g)
+          no _ _ (sym e ∙ g)
           (rw (← x, get_or-set_same jobs j w no_job (omega arith)) z)
           ∙ steps
 

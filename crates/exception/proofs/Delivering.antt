@@ -1,15 +1,13 @@
--- How an exception is delivered: what is given for it, stored, is what the model says of what the search found. `Still`
+-- How an exception is delivered: what that leaves, stored, is what the model says of what the search found. `Still`
 -- says that the process of a name past the table does not exit. Assumes nothing.
-use Rattle.std.proofs.Common.{Option, Some, None}
+use Rattle.std.proofs.Common.{Option, Some, None, Ok}
 use Prim.Native.Nat.{ℕ, ◌%◌, ◌≤◌, ◌<◌}
 use native.Mathlib.Nat.{mod-eq_of_lt}
-use native.Mathlib.Decide.{dec_lt}
-use native.Mathlib.Omega.{arith}
 use mathlib.Core.Path.{◌≡◌, refl, sym, ap, ◌∙◌}
 use mathlib.Core.Bool.{Bool, true, false}
+use mathlib.Core.List.{List}
 use lib.IntN.{pos}
 use lib.Seq.{set-set}
-use borrow.Author.Tests.{lt-leb, le-leb}
 use Rattle.laws.specs.Choice.{if◌then◌otherwise◌}
 use Rattle.laws.proofs.Cases.{by}
 use Rattle.laws.proofs.Flow.{first, second, not_yes, not_no}
@@ -20,6 +18,7 @@ use Rattle.record_exception.specs.declared.Place.TheVariants.{Debugger, OwnThrea
 use Rattle.record_exception.specs.declared.Place.TheVariants.{SecondChance, OfJob, OfJobDebugger}
 use Rattle.record_exception.specs.declared.Place.TheVariants.{Exiting}
 use Rattle.record_exception.specs.Exception.{level_of, exception_at}
+use Rattle.record_job.specs.declared.Job.{Job}
 use Rattle.record_process.specs.declared.Status.TheVariants.{Exited}
 use Rattle.record_process.specs.declared.Process.{Process}
 use Rattle.record_process.specs.Process.{KILL_CODE, no_process, with_status}
@@ -38,53 +37,42 @@ use Rattle.model.specs.Exception.{is_synth, process_of, owner_of, outcome, over_
 use Rattle.model.specs.Exception.{unhandled, deliver}
 use Rattle.model.proofs.Live.{unmade_process}
 use Rattle.model.proofs.Steps.{exit_done, exit_step_lem, exiting}
-use Rattle.exception.specs.declared.Found.{Found}
 use Rattle.exception.specs.declared.Raised.{Raised}
-use Rattle.exception.specs.Raise.{raised_in, shown, kept, own_process, owner_in, waits_at}
+use Rattle.exception.specs.declared.Raised.TheVariants.{At}
+use Rattle.exception.specs.Seek.{Found}
+use Rattle.exception.specs.Raise.{raised_answer, raised_owner, raised_in, exits, gone_on, stored_at, left_in}
+use Rattle.exception.specs.Raise.{Came, came, owner_in, waits_at}
 use Rattle.exception.specs.Raise.{unheard, delivers, exits_to}
 use Rattle.exception.proofs.Stored.{Fits, stored, process_put, thread_there}
 
 -- ---- The process of a name past the table -------------------------------------------------------
 
--- what is given, stored under the process's name p itself
-unfoldable pub stored_in : Tables → ℕ → ℕ → Raised → Reply
-stored_in t n p m =
-    let u : Tables = with_jobs (put_process (put_thread t n m.thread) p m.process) m.jobs in
-    reply (if m.exits then exit_listed kill_job u p otherwise u) m.answer m.fields
+-- what an accepted call comes to, stored under the process's name p itself
+unfoldable pub stored_in : Tables → ℕ → ℕ → Came → Reply
+stored_in t n p m = raised_in (gone_on (stored_at t n p m.thread m.process m.jobs) p (Ok m.to)) (Ok m.to)
 
-abbrev pub Still : ℕ → Raised → Type 0
-Still p m = 64 ≤ p → m.exits ≡ false
+abbrev pub Still : ℕ → Came → Type 0
+Still p m = 64 ≤ p → exits (Ok m.to) ≡ false
 
-pub kept_back : (t : Tables) (n : ℕ) (v : Thread) (q : Process) (m : Raised) → Sized t → n < 128 →
-    process_at t (v.process % 64) ≡ q → Still v.process m →
-    raised_in t n v (kept v.process q m) ≡ stored_in t n v.process m
-unfolding raised_in kept stored_in if◌then◌otherwise◌ process_at put_process put_thread
-kept_back t n v q m z h e s = go (dec_lt v.process 64)
-  where
-    go : Dec (v.process < 64) → raised_in t n v (kept v.process q m) ≡ stored_in t n v.process m
-    go (yes l) = rw (lt-leb 64 v.process l, mod-eq_of_lt l, mod-eq_of_lt h)
-    go (no g) =
-        let k : 64 ≤ v.process = omega arith in
-        rw (le-leb 64 v.process k, mod-eq_of_lt h, s k)
-        (ap (λ (u : Tables). reply (with_jobs u m.jobs) m.answer m.fields)
-        (process_kept (put_thread t n m.thread) (v.process % 64) e
-        ∙ ap (with_processes (put_thread t n m.thread))
-        (write_past t.processes v.process m.process z.processes k)))
+pub none_past : (t : Tables) (p : ℕ) → Sized t → 64 ≤ p → process_at t p ≡ no_process
+unfolding process_at
+none_past t p z k = sym (read_past t.processes p no_process z.processes k)
 
--- the record by which the search goes is what the tables have under the name
-pub own_is : (t : Tables) (p : ℕ) (q : Process) → Sized t → process_at t (p % 64) ≡ q → process_at t p ≡ own_process p q
-unfolding own_process if◌then◌otherwise◌ process_at
-own_is t p q z e = go (dec_lt p 64)
-  where
-    go : Dec (p < 64) → process_at t p ≡ own_process p q
-    go (yes l) = rw (lt-leb 64 p l, ← e, mod-eq_of_lt l)
-    go (no g) =
-        let k : 64 ≤ p = omega arith in
-        rw (le-leb 64 p k) (sym (read_past t.processes p no_process z.processes k))
+module _ (t : Tables) (z : Sized t) (n p : ℕ) (h : n < 128) (m : Raised) (w : Thread) (r : Process)
+    (jobs : List Job) where
+  pub stored_back_in : p < 64 → left_in t n p w r jobs (Ok m) ≡ stored_in t n p (came m w r jobs)
+  unfolding stored_in
+  stored_back_in l = rw (mod-eq_of_lt l, mod-eq_of_lt h)
 
-pub own_fits : (p : ℕ) (q : Process) → Fits p (own_process p q)
-unfolding own_process if◌then◌otherwise◌
-own_fits p q k = rw (le-leb 64 p k)
+  -- a name past the table: the record q at the place that it would have is left as it was
+  pub stored_past : {q : Process} → process_at t (p % 64) ≡ q → 64 ≤ p → Still p (came m w r jobs) →
+      left_in t n p w q jobs (Ok m) ≡ stored_in t n p (came m w r jobs)
+  unfolding stored_in raised_in gone_on if◌then◌otherwise◌ process_at put_process put_thread
+  stored_past e k s =
+      rw (mod-eq_of_lt h, s k)
+      (ap (λ (u : Tables). reply (with_jobs u jobs) (raised_answer m) (OwnerField (raised_owner m)))
+      (process_kept (put_thread t n w) (p % 64) e
+      ∙ ap (with_processes (put_thread t n w)) (write_past t.processes p r z.processes k)))
 
 -- ---- Delivery ----------------------------------------------------------------------------------
 
@@ -139,7 +127,7 @@ module _ (t : Tables) (z : Sized t) (n : ℕ) (h : n < 128) (f : Found)
 
   waiting : (p : Place) (kind : ℕ) (b : Bool) →
       deliver (Some p) there n kind b ≡ stored_in t n name (waits_at f p n kind b)
-  unfolding deliver stored_in if◌then◌otherwise◌
+  unfolding deliver stored_in raised_in gone_on if◌then◌otherwise◌
   waiting p kind b =
       ap (λ (u : Tables). reply u (pos (level_of p)) (OwnerField (owner_of there n p)))
       (put_thread_lem (λ v. waits v BLOCKED_EXCEPTION (InException (exception_at kind p b))))
@@ -172,7 +160,7 @@ module _ (t : Tables) (z : Sized t) (n : ℕ) (h : n < 128) (f : Found)
       ∙ ap (λ (u : Tables). exit_listed kill_job u name) (put_process_lem (end_wait f.thread) r)
 
   ending : (kind : ℕ) → outcome (unhandled there n kind) NEXT ≡ stored_in t n name (unheard f kind)
-  unfolding unhandled unheard stored_in if◌then◌otherwise◌
+  unfolding unhandled unheard stored_in raised_in gone_on if◌then◌otherwise◌
   ending kind =
       by (is_synth kind)
       (λ s. rw s (ap (λ (u : Tables). reply u NEXT (OwnerField 0)) over_is))
@@ -204,15 +192,15 @@ module _ (t : Tables) (z : Sized t) (n : ℕ) (h : n < 128) (f : Found)
 
   exit_waits : (p : Place) (kind : ℕ) →
       reply (put_thread there n (exiting_at p kind (thread_at there n))) (pos 1) (OwnerField (process_of there n))
-      ≡ stored_in t n name (shown (pos 1) name (exiting_at p kind f.thread) f.process f.jobs)
-  unfolding stored_in if◌then◌otherwise◌
+      ≡ stored_in t n name (came (At 1 name) (exiting_at p kind f.thread) f.process f.jobs)
+  unfolding stored_in raised_in gone_on if◌then◌otherwise◌
   exit_waits p kind =
       ap (λ (u : Tables). reply u (pos 1) (OwnerField (process_of there n))) (put_thread_lem (exiting_at p kind))
       ∙ ap (λ (x : Thread). reply (with (exiting_at p kind f.thread) f.process) (pos 1) (OwnerField x.process))
       thread_is
 
   pub exits_at : (at : Option Place) (kind : ℕ) → exiting_to at there n kind ≡ stored_in t n name (exits_to at f kind)
-  unfolding exiting_to exits_to stored_in if◌then◌otherwise◌
+  unfolding exiting_to exits_to stored_in raised_in gone_on if◌then◌otherwise◌
   exits_at None kind = refl
   exits_at (Some p) kind =
       let k : (thread_at there n).killed ≡ f.thread.killed = ap (λ (x : Thread). x.killed) thread_is in
@@ -220,7 +208,7 @@ module _ (t : Tables) (z : Sized t) (n : ℕ) (h : n < 128) (f : Found)
       (λ d. sym (first _ _ (k ∙ d) refl) ∙ ap (stored_in t n name) (first _ _ d refl))
       (λ d. sym (second _ _ (k ∙ d) refl) ∙ exit_waits p kind ∙ ap (stored_in t n name) (second _ _ d refl))
 
-pub exits_still : (at : Option Place) (f : Found) (kind : ℕ) → (exits_to at f kind).exits ≡ false
+pub exits_still : (at : Option Place) (f : Found) (kind : ℕ) → exits (Ok (exits_to at f kind).to) ≡ false
 unfolding exits_to if◌then◌otherwise◌
 exits_still None f kind = refl
 exits_still (Some p) f kind = by f.thread.killed (λ d. rw d) (λ d. rw d)

@@ -1,5 +1,5 @@
--- The search for a handler over the records alone: the thread, its process and the table of jobs. A stage says which
--- handlers are left. A level that is passed and hung up becomes unbound.
+-- The search for a handler over the records alone: the thread, its process and the table of jobs. A level that is
+-- passed and hung up becomes unbound.
 use Rattle.std.specs.Prelude.{Option, Some, None}
 use Rattle.std.specs.Prelude.{ℕ, zero, suc, Bool, true, false, not, List, get_or, set}
 use Rattle.laws.specs.Choice.{◌=?◌, if◌then◌otherwise◌, ite}
@@ -20,81 +20,6 @@ use Rattle.model.specs.declared.Route.{Route}
 use Rattle.model.specs.declared.Route.TheVariants.{Ordinary, JobDebuggers, DebuggerOnly}
 use Rattle.model.specs.declared.Route.TheVariants.{ToExiting, NoType}
 use Rattle.model.specs.Job.{on_parent}
-use Rattle.exception.specs.declared.Stage.{Stage}
-use Rattle.exception.specs.declared.Stage.TheVariants.{FromDebugger, FromThread, FromProcess}
-use Rattle.exception.specs.declared.Stage.TheVariants.{FromSecondChance, FromJob, DebuggerAlone}
-use Rattle.exception.specs.declared.Stage.TheVariants.{ExitingAlone, NobodyLeft}
-use Rattle.exception.specs.declared.Goes.{Goes}
-use Rattle.exception.specs.declared.Goes.TheVariants.{To, Nowhere, Up}
-use Rattle.exception.specs.declared.Sought.{Sought}
-use Rattle.exception.specs.declared.Climbed.{Climbed}
-use Rattle.exception.specs.declared.Found.{Found}
-
--- ---- Where the search starts -------------------------------------------------------------------
-
-unfoldable pub first_stage : Route → Process → Stage
-first_stage Ordinary q = FromDebugger
-first_stage JobDebuggers q = FromJob true q.job
-first_stage DebuggerOnly q = DebuggerAlone
-first_stage ToExiting q = ExitingAlone
-first_stage NoType q = NobodyLeft
-
-unfoldable pub above_stage : Job → Stage
-above_stage w = on_parent w.parent NobodyLeft λ i. FromJob false i
-
-unfoldable pub after_debugger : ℕ → Stage
-after_debugger kind = if kind =? 0x8008 then NobodyLeft otherwise FromThread
-
-unfoldable pub next_stage : Place → Exception → Process → List Job → Stage
-next_stage Debugger e q jobs = after_debugger e.kind
-next_stage OwnThread e q jobs = FromProcess
-next_stage OwnProcess e q jobs = FromSecondChance
-next_stage SecondChance e q jobs = FromJob false q.job
-next_stage (OfJob j) e q jobs = above_stage (get_or jobs j no_job)
-next_stage (OfJobDebugger j) e q jobs = NobodyLeft
-next_stage Exiting e q jobs = NobodyLeft
-
--- ---- The thread and its process ----------------------------------------------------------------
-
-abbrev pub sought : Goes → Thread → Process → Sought
-sought goes v q = record { goes = goes; thread = v; process = q }
-
-unfoldable pub from_second_chance : Thread → Process → Bool → Sought
-from_second_chance v q second =
-    if not second then sought (Up false q.job) v q otherwise
-    if is_bound q.level1 then sought (To SecondChance) v q otherwise
-    sought (Up false q.job) v (with_level1 q (tried q.level1))
-
-unfoldable pub from_process : Thread → Process → Bool → Sought
-from_process v q second =
-    if is_bound q.level3 then sought (To OwnProcess) v q otherwise
-    from_second_chance v (with_level3 q (tried q.level3)) second
-
-unfoldable pub from_thread : Thread → Process → Bool → Sought
-from_thread v q second =
-    if is_bound v.level2 then sought (To OwnThread) v q otherwise
-    from_process (with_level2 v (tried v.level2)) q second
-
-unfoldable pub from_debugger : Thread → Process → Bool → Sought
-from_debugger v q second =
-    if is_bound q.level1 then sought (To Debugger) v q otherwise
-    from_thread v (with_level1 q (tried q.level1)) second
-
--- level 1 and no other
-unfoldable pub alone : Place → Thread → Process → Sought
-alone place v q =
-    if is_bound q.level1 then sought (To place) v q otherwise
-    sought Nowhere v (with_level1 q (tried q.level1))
-
-unfoldable pub seek : Stage → Bool → Thread → Process → Sought
-seek FromDebugger second v q = from_debugger v q second
-seek FromThread second v q = from_thread v q second
-seek FromProcess second v q = from_process v q second
-seek FromSecondChance second v q = from_second_chance v q second
-seek (FromJob debugger j) second v q = sought (Up debugger j) v q
-seek DebuggerAlone second v q = alone Debugger v q
-seek ExitingAlone second v q = alone Exiting v q
-seek NobodyLeft second v q = sought Nowhere v q
 
 -- ---- The jobs ----------------------------------------------------------------------------------
 
@@ -110,6 +35,11 @@ passed_in false v = with_level4 v (tried v.level4)
 abbrev pub job_place : Bool → ℕ → Place
 job_place true = λ j. OfJobDebugger j
 job_place false = λ j. OfJob j
+
+-- who takes an exception above, and the jobs as they are left
+pub record Climbed : Type 0 where
+  pub at : Option Place
+  pub jobs : List Job
 
 abbrev pub climbed : Option Place → List Job → Climbed
 climbed at jobs = record { at = at; jobs = jobs }
@@ -127,18 +57,74 @@ climbing (suc k) debugger jobs j =
     on_parent (get_or (passed_jobs debugger jobs j) j no_job).parent (climbed None (passed_jobs debugger jobs j)) λ i.
     climbing k debugger (passed_jobs debugger jobs j) i
 
+-- the jobs above job j
+unfoldable pub above_job : List Job → ℕ → Climbed
+above_job jobs j = on_parent (get_or jobs j no_job).parent (climbed None jobs) λ i. climbing 32 false jobs i
+
 -- ---- The search --------------------------------------------------------------------------------
+
+-- who takes an exception, and the records as the levels passed leave them
+pub record Found : Type 0 where
+  pub at : Option Place
+  pub thread : Thread
+  pub process : Process
+  pub jobs : List Job
 
 abbrev pub found : Option Place → Thread → Process → List Job → Found
 found at v q jobs = record { at = at; thread = v; process = q; jobs = jobs }
 
+-- level 4, or 5, of job j and those above
 abbrev pub climbed_to : Climbed → Thread → Process → Found
 climbed_to c v q = found c.at v q c.jobs
 
-unfoldable pub onward : Goes → Sought → List Job → Found
-onward (To place) x jobs = found (Some place) x.thread x.process jobs
-onward Nowhere x jobs = found None x.thread x.process jobs
-onward (Up debugger j) x jobs = climbed_to (climbing 32 debugger jobs j) x.thread x.process
+abbrev pub from_job : Bool → ℕ → Thread → Process → List Job → Found
+from_job debugger j v q jobs = climbed_to (climbing 32 debugger jobs j) v q
 
-unfoldable pub searched : Stage → Bool → Thread → Process → List Job → Found
-searched stage second v q jobs = onward (seek stage second v q).goes (seek stage second v q) jobs
+unfoldable pub from_second_chance : Thread → Process → List Job → Bool → Found
+from_second_chance v q jobs second =
+    if not second then from_job false q.job v q jobs otherwise
+    if is_bound q.level1 then found (Some SecondChance) v q jobs otherwise
+    from_job false q.job v (with_level1 q (tried q.level1)) jobs
+
+unfoldable pub from_process : Thread → Process → List Job → Bool → Found
+from_process v q jobs second =
+    if is_bound q.level3 then found (Some OwnProcess) v q jobs otherwise
+    from_second_chance v (with_level3 q (tried q.level3)) jobs second
+
+unfoldable pub from_thread : Thread → Process → List Job → Bool → Found
+from_thread v q jobs second =
+    if is_bound v.level2 then found (Some OwnThread) v q jobs otherwise
+    from_process (with_level2 v (tried v.level2)) q jobs second
+
+unfoldable pub from_debugger : Thread → Process → List Job → Bool → Found
+from_debugger v q jobs second =
+    if is_bound q.level1 then found (Some Debugger) v q jobs otherwise
+    from_thread v (with_level1 q (tried q.level1)) jobs second
+
+-- level 1 and no other
+unfoldable pub alone : Place → Thread → Process → List Job → Found
+alone place v q jobs =
+    if is_bound q.level1 then found (Some place) v q jobs otherwise
+    found None v (with_level1 q (tried q.level1)) jobs
+
+-- of an exception just raised
+unfoldable pub first_found : Route → Thread → Process → List Job → Found
+first_found Ordinary v q jobs = from_debugger v q jobs false
+first_found JobDebuggers v q jobs = from_job true q.job v q jobs
+first_found DebuggerOnly v q jobs = alone Debugger v q jobs
+first_found ToExiting v q jobs = alone Exiting v q jobs
+first_found NoType v q jobs = found None v q jobs
+
+unfoldable pub after_debugger : Exception → Thread → Process → List Job → Found
+after_debugger e v q jobs =
+    if e.kind =? 0x8008 then found None v q jobs otherwise from_thread v q jobs e.second
+
+-- of one that a handler closed without handling
+unfoldable pub next_found : Place → Exception → Thread → Process → List Job → Found
+next_found Debugger e v q jobs = after_debugger e v q jobs
+next_found OwnThread e v q jobs = from_process v q jobs e.second
+next_found OwnProcess e v q jobs = from_second_chance v q jobs e.second
+next_found SecondChance e v q jobs = from_job false q.job v q jobs
+next_found (OfJob j) e v q jobs = climbed_to (above_job jobs j) v q
+next_found (OfJobDebugger j) e v q jobs = found None v q jobs
+next_found Exiting e v q jobs = found None v q jobs

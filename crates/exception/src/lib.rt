@@ -1,16 +1,21 @@
 // exception: raising an exception (14) and closing one (15), over the records that they name. One search finds the next
-// handler for both. Follows exception.rs. specs/Raise.antt says what is given means for the tables.
+// handler for both. Each function is lent the records that it may change, and no struct of all three; its clause holds
+// whatever the others are. Follows exception.rs. specs/Raise.antt says what is left and answered mean for the tables.
 #![tactic(auto)]
 
-ghost use Rattle.std.specs.Prelude.{◌≡◌};
+ghost use Rattle.std.specs.Prelude.{◌≡◌, List, true, false};
+ghost use Rattle.record_job.specs.declared.Job.{Job};
+ghost use Rattle.record_process.specs.declared.Process.{Process};
+ghost use Rattle.record_thread.specs.declared.Thread.{Thread};
+ghost use Rattle.record_exception.specs.Channel.{is_bound, tried};
 ghost use Rattle.model.specs.Exception.{route_of, is_no_type};
 ghost use Rattle.model.specs.ExceptionCalls.{raise_exception, close_exception};
 ghost use Rattle.model.specs.Job.{is_live_process};
-ghost use Rattle.exception.specs.Seek.{first_stage, above_stage, after_debugger, next_stage, sought};
-ghost use Rattle.exception.specs.Seek.{from_second_chance, from_process, from_thread, from_debugger, alone, seek};
-ghost use Rattle.exception.specs.Seek.{level_in, passed_in, job_place, climbing, found, onward, searched};
-ghost use Rattle.exception.specs.Raise.{Raises, refused, shown, owner_in, waits_at, unheard, delivers};
-ghost use Rattle.exception.specs.Raise.{exits_to, is_stopped, raises, is_over, closes, own_process, kept};
+ghost use Rattle.exception.specs.Seek.{level_in, passed_in, job_place, climbed, climbing, above_job, found};
+ghost use Rattle.exception.specs.Seek.{from_second_chance, from_process, from_thread, from_debugger, alone};
+ghost use Rattle.exception.specs.Seek.{first_found, after_debugger, next_found};
+ghost use Rattle.exception.specs.Raise.{raised_answer, raised_owner, Raises, came, owner_in, waits_at, unheard};
+ghost use Rattle.exception.specs.Raise.{delivers, exits_to, is_stopped, raises, is_over, closes};
 
 use error::{Refusal, ZxError};
 use model::Route;
@@ -18,10 +23,48 @@ use record_exception::{Exception, ExceptionType, Level, Place};
 use record_job::Job;
 use record_process::{Process, Status};
 use record_thread::{Thread, ThreadState, Waiting};
-use records::reading::job_in;
-use reply::Fields;
 
-// -- Where the search starts ------------------------------------------------------------------
+// What an accepted 14 or 15 comes to.
+#[derive(Clone, Copy)]
+pub enum Raised {
+    // A handler has it: its level, and whose level that is.
+    At { level: u8, owner: u8 },
+    // Closed, and over.
+    Over,
+    // Nobody took it.
+    Next,
+    // Nobody took it, and the process exits: it is marked. Here its threads are still to be killed, or it ends where it
+    // lists none; an entry point has done so, and answers by number as for `Next`.
+    Exits,
+    // The thread is stopped.
+    Stop,
+}
+
+impl Raised {
+    // The number that the call is answered with.
+    pub fn answer(self) -> i64
+        ensures { result ≡ raised_answer self }
+    {
+        match self {
+            Raised::At { level, .. } => i64::from(level),
+            Raised::Over => 0,
+            Raised::Next | Raised::Exits => ZxError::Next.number(),
+            Raised::Stop => ZxError::Stop.number(),
+        }
+    }
+
+    // The owner of the level that has the exception, or 0.
+    pub fn owner(self) -> u8
+        ensures { result ≡ raised_owner self }
+    {
+        match self {
+            Raised::At { owner, .. } => owner,
+            _ => 0,
+        }
+    }
+}
+
+// -- Routes -----------------------------------------------------------------------------------
 
 // The route of an exception type: one of the eleven, or none.
 #[tactic(auto, using(laws::proofs::Flow::branches), unfolding(model::specs::Exception::route_of, model::specs::Exception::is_hardware))]
@@ -51,190 +94,30 @@ fn is_no_type(route: Route) -> bool
     matches!(route, Route::NoType)
 }
 
-// The handlers that are left.
-#[derive(Drop)]
-enum Stage {
-    FromDebugger,
-    FromThread,
-    FromProcess,
-    FromSecondChance,
-    // Level 4 of the jobs from this one up, or level 5.
-    FromJob(bool, u8),
-    // Level 1 and no other: ThreadStarting, and ThreadExiting.
-    DebuggerAlone,
-    ExitingAlone,
-    NobodyLeft,
-}
+// -- A level -----------------------------------------------------------------------------------
 
-// What an exception just raised has before it.
-#[tactic(auto, using(laws::proofs::Flow::branches), unfolding(crate::specs::Seek::first_stage))]
-fn first_stage(route: Route, q: Process) -> Stage
-    ensures { result ≡ first_stage route q }
+// Whether a level's handler takes the exception; else it is passed, and becomes unbound where it is hung up.
+fn takes(level: &mut Level) -> bool
+    ensures says { result ≡ is_bound level.old }
+    ensures left { level.new ≡ tried level.old }
 {
-    match route {
-        Route::Ordinary => Stage::FromDebugger,
-        Route::JobDebuggers => Stage::FromJob(true, q.job),
-        Route::DebuggerOnly => Stage::DebuggerAlone,
-        Route::ToExiting => Stage::ExitingAlone,
-        Route::NoType => Stage::NobodyLeft,
-    }
-}
-
-// Level 4 of the jobs above one.
-#[tactic(auto, using(laws::proofs::Flow::branches), unfolding(crate::specs::Seek::above_stage, model::specs::Job::on_parent))]
-fn above_stage(w: Job) -> Stage
-    ensures { result ≡ above_stage w }
-{
-    match w.parent {
-        None => Stage::NobodyLeft,
-        Some(i) => Stage::FromJob(false, i),
-    }
-}
-
-// ThreadStarting goes to level 1 only.
-#[tactic(auto, using(laws::proofs::Flow::branches), unfolding(crate::specs::Seek::after_debugger))]
-fn after_debugger(kind: u16) -> Stage
-    ensures { result ≡ after_debugger kind }
-{
-    if kind == ExceptionType::THREAD_STARTING {
-        return Stage::NobodyLeft;
-    }
-    Stage::FromThread
-}
-
-// What an exception has before it that a handler closed without handling.
-#[tactic(auto, using(laws::proofs::Flow::branches), unfolding(crate::specs::Seek::next_stage))]
-fn next_stage(e: Exception, q: Process, jobs: [Job; 32]) -> Stage
-    ensures { result ≡ next_stage e.place e q jobs }
-{
-    match e.place {
-        Place::Debugger => after_debugger(e.kind),
-        Place::OwnThread => Stage::FromProcess,
-        Place::OwnProcess => Stage::FromSecondChance,
-        Place::SecondChance => Stage::FromJob(false, q.job),
-        Place::OfJob(j) => above_stage(job_in(jobs, j)),
-        Place::OfJobDebugger(_) | Place::Exiting => Stage::NobodyLeft,
-    }
-}
-
-// -- The thread and its process: a level that is passed and hung up becomes unbound -------------
-
-// Where an exception goes, as far as the thread and its process say.
-#[derive(Drop)]
-enum Goes {
-    To(Place),
-    Nowhere,
-    Up(bool, u8),
-}
-
-// Where it goes, and the two records with the levels passed.
-#[derive(Drop)]
-struct Sought {
-    goes: Goes,
-    thread: Thread,
-    process: Process,
-}
-
-impl Sought {
-    fn new(goes: Goes, v: Thread, q: Process) -> Sought
-        ensures { result ≡ sought goes v q }
-    {
-        Sought {
-            goes,
-            thread: v,
-            process: q,
-        }
-    }
-}
-
-// The debugger again, if second chance is set now that level 3 is left.
-#[tactic(auto, using(laws::proofs::Flow::branches), unfolding(crate::specs::Seek::from_second_chance))]
-fn from_second_chance(v: Thread, q: Process, second: bool) -> Sought
-    ensures { result ≡ from_second_chance v q second }
-{
-    if !second {
-        return Sought::new(Goes::Up(false, q.job), v, q);
-    }
-    if q.level1.is_bound() {
-        return Sought::new(Goes::To(Place::SecondChance), v, q);
-    }
-    Sought::new(Goes::Up(false, q.job), v, q.with_level1(q.level1.tried()))
-}
-
-#[tactic(auto, using(laws::proofs::Flow::branches), unfolding(crate::specs::Seek::from_process))]
-fn from_process(v: Thread, q: Process, second: bool) -> Sought
-    ensures { result ≡ from_process v q second }
-{
-    if q.level3.is_bound() {
-        return Sought::new(Goes::To(Place::OwnProcess), v, q);
-    }
-    from_second_chance(v, q.with_level3(q.level3.tried()), second)
-}
-
-#[tactic(auto, using(laws::proofs::Flow::branches), unfolding(crate::specs::Seek::from_thread))]
-fn from_thread(v: Thread, q: Process, second: bool) -> Sought
-    ensures { result ≡ from_thread v q second }
-{
-    if v.level2.is_bound() {
-        return Sought::new(Goes::To(Place::OwnThread), v, q);
-    }
-    from_process(v.with_level2(v.level2.tried()), q, second)
-}
-
-#[tactic(auto, using(laws::proofs::Flow::branches), unfolding(crate::specs::Seek::from_debugger))]
-fn from_debugger(v: Thread, q: Process, second: bool) -> Sought
-    ensures { result ≡ from_debugger v q second }
-{
-    if q.level1.is_bound() {
-        return Sought::new(Goes::To(Place::Debugger), v, q);
-    }
-    from_thread(v, q.with_level1(q.level1.tried()), second)
-}
-
-// Level 1 and no other.
-#[tactic(auto, using(laws::proofs::Flow::branches), unfolding(crate::specs::Seek::alone))]
-fn alone(place: Place, v: Thread, q: Process) -> Sought
-    ensures { result ≡ alone place v q }
-{
-    if q.level1.is_bound() {
-        return Sought::new(Goes::To(place), v, q);
-    }
-    Sought::new(Goes::Nowhere, v, q.with_level1(q.level1.tried()))
-}
-
-#[tactic(auto, using(laws::proofs::Flow::branches), unfolding(crate::specs::Seek::seek))]
-fn seek(stage: Stage, second: bool, v: Thread, q: Process) -> Sought
-    ensures { result ≡ seek stage second v q }
-{
-    match stage {
-        Stage::FromDebugger => from_debugger(v, q, second),
-        Stage::FromThread => from_thread(v, q, second),
-        Stage::FromProcess => from_process(v, q, second),
-        Stage::FromSecondChance => from_second_chance(v, q, second),
-        Stage::FromJob(debugger, job) => Sought::new(Goes::Up(debugger, job), v, q),
-        Stage::DebuggerAlone => alone(Place::Debugger, v, q),
-        Stage::ExitingAlone => alone(Place::Exiting, v, q),
-        Stage::NobodyLeft => Sought::new(Goes::Nowhere, v, q),
-    }
+    let bound = level.is_bound();
+    *level = level.tried();
+    bound
 }
 
 // -- The jobs ---------------------------------------------------------------------------------
 
-// A job's level 5, or its level 4.
-fn job_level(debugger: bool, v: Job) -> Level
-    ensures { result ≡ level_in debugger v }
-{
-    if debugger { v.level5 } else { v.level4 }
-}
-
-// A job whose level was tried and passed.
-fn passed(debugger: bool, v: Job) -> Job
-    ensures { result ≡ passed_in debugger v }
+// Whether a job's level 5, or its level 4, takes it.
+fn job_takes(debugger: bool, v: &mut Job) -> bool
+    ensures says { result ≡ is_bound (level_in debugger v.old) }
+    ensures left { v.new ≡ passed_in debugger v.old }
 {
     if debugger {
-        return v.with_level5(v.level5.tried());
+        takes(&mut v.level5)
+    } else {
+        takes(&mut v.level4)
     }
-    v.with_level4(v.level4.tried())
 }
 
 fn job_place(debugger: bool, job: u8) -> Place
@@ -246,145 +129,161 @@ fn job_place(debugger: bool, job: u8) -> Place
     Place::OfJob(job)
 }
 
-#[derive(Drop)]
-struct Climbed {
-    at: Option<Place>,
-    jobs: [Job; 32],
-}
-
 // Level 4, or level 5, from a job up to the root.
-fn climb(mut jobs: [Job; 32], debugger: bool, job: u8) -> Climbed
-    ensures { result ≡ climbing 32 debugger jobs job }
+fn climb(jobs: &mut [Job; 32], debugger: bool, job: u8) -> Option<Place>
+    ensures { climbed result jobs.new ≡ climbing 32 debugger jobs.old job }
 {
     let mut at = job;
     for _step in 0..32usize {
         if 32 <= at {
-            return Climbed { at: None, jobs };
+            return None;
         }
         let k = at as usize;
-        let v = jobs[k];
-        if job_level(debugger, v).is_bound() {
-            return Climbed {
-                at: Some(job_place(debugger, at)),
-                jobs,
-            };
+        let mut v = jobs[k];
+        if job_takes(debugger, &mut v) {
+            return Some(job_place(debugger, at));
         }
-        let w = passed(debugger, v);
-        jobs[k] = w;
-        let Some(p) = w.parent else {
-            return Climbed { at: None, jobs };
+        jobs[k] = v;
+        let Some(p) = v.parent else {
+            return None;
         };
         at = p;
     }
-    Climbed { at: None, jobs }
+    None
 }
 
-// -- The search -------------------------------------------------------------------------------
+// -- The search: who takes an exception -------------------------------------------------------
 
-// Who takes an exception, and the records with the levels passed.
-#[derive(Drop)]
-struct Found {
-    at: Option<Place>,
-    thread: Thread,
-    process: Process,
-    jobs: [Job; 32],
+// The debugger again, if second chance is set now that level 3 is left.
+#[tactic(auto, using(laws::proofs::Flow::branches), unfolding(crate::specs::Seek::from_second_chance))]
+fn from_second_chance(q: &mut Process, jobs: &mut [Job; 32], second: bool) -> Option<Place>
+    ensures { (v : Thread) → found result v q.new jobs.new ≡ from_second_chance v q.old jobs.old second }
+{
+    if second && takes(&mut q.level1) {
+        return Some(Place::SecondChance);
+    }
+    climb(jobs, false, q.job)
 }
 
-impl Sought {
-    // Who takes it, with the jobs as they are left.
-    fn found(self, at: Option<Place>, jobs: [Job; 32]) -> Found
-        ensures { result ≡ found at self.thread self.process jobs }
-    {
-        Found {
-            at,
-            thread: self.thread,
-            process: self.process,
-            jobs,
-        }
+// Levels 3, 2 and 1 have a function each: what differs is the place, and where it goes on.
+#[tactic(auto, using(laws::proofs::Flow::branches), unfolding(crate::specs::Seek::from_process))]
+fn from_process(q: &mut Process, jobs: &mut [Job; 32], second: bool) -> Option<Place>
+    ensures { (v : Thread) → found result v q.new jobs.new ≡ from_process v q.old jobs.old second }
+{
+    if takes(&mut q.level3) {
+        return Some(Place::OwnProcess);
+    }
+    from_second_chance(q, jobs, second)
+}
+
+#[tactic(auto, using(laws::proofs::Flow::branches), unfolding(crate::specs::Seek::from_thread))]
+fn from_thread(v: &mut Thread, q: &mut Process, jobs: &mut [Job; 32], second: bool) -> Option<Place>
+    ensures { found result v.new q.new jobs.new ≡ from_thread v.old q.old jobs.old second }
+{
+    if takes(&mut v.level2) {
+        return Some(Place::OwnThread);
+    }
+    from_process(q, jobs, second)
+}
+
+#[tactic(auto, using(laws::proofs::Flow::branches), unfolding(crate::specs::Seek::from_debugger))]
+fn from_debugger(
+    v: &mut Thread,
+    q: &mut Process,
+    jobs: &mut [Job; 32],
+    second: bool,
+) -> Option<Place>
+    ensures { found result v.new q.new jobs.new ≡ from_debugger v.old q.old jobs.old second }
+{
+    if takes(&mut q.level1) {
+        return Some(Place::Debugger);
+    }
+    from_thread(v, q, jobs, second)
+}
+
+// Level 1 and no other.
+#[tactic(auto, using(laws::proofs::Flow::branches), unfolding(crate::specs::Seek::alone))]
+fn alone(place: Place, q: &mut Process) -> Option<Place>
+    ensures { (v : Thread) → (jobs : List Job) → found result v q.new jobs ≡ alone place v q.old jobs }
+{
+    if takes(&mut q.level1) {
+        return Some(place);
+    }
+    None
+}
+
+// The first handler of an exception just raised.
+#[tactic(auto, using(laws::proofs::Flow::branches), unfolding(crate::specs::Seek::first_found))]
+fn first_handler(
+    route: Route,
+    v: &mut Thread,
+    q: &mut Process,
+    jobs: &mut [Job; 32],
+) -> Option<Place>
+    ensures { found result v.new q.new jobs.new ≡ first_found route v.old q.old jobs.old }
+{
+    match route {
+        Route::Ordinary => from_debugger(v, q, jobs, false),
+        Route::JobDebuggers => climb(jobs, true, q.job),
+        Route::DebuggerOnly => alone(Place::Debugger, q),
+        Route::ToExiting => alone(Place::Exiting, q),
+        Route::NoType => None,
     }
 }
 
-// On from the thread and its process to the jobs.
-#[tactic(auto, using(laws::proofs::Flow::branches), unfolding(crate::specs::Seek::onward))]
-fn onward(x: Sought, jobs: [Job; 32]) -> Found
-    ensures { result ≡ onward x.goes x jobs }
+// ThreadStarting goes to level 1 only.
+#[tactic(auto, using(laws::proofs::Flow::branches), unfolding(crate::specs::Seek::after_debugger))]
+fn after_debugger(
+    e: Exception,
+    v: &mut Thread,
+    q: &mut Process,
+    jobs: &mut [Job; 32],
+) -> Option<Place>
+    ensures { found result v.new q.new jobs.new ≡ after_debugger e v.old q.old jobs.old }
 {
-    match x.goes {
-        Goes::To(place) => x.found(Some(place), jobs),
-        Goes::Nowhere => x.found(None, jobs),
-        Goes::Up(debugger, job) => {
-            let climbed = climb(jobs, debugger, job);
-            let passed = climbed.jobs;
-            x.found(climbed.at, passed)
-        }
+    if e.kind == ExceptionType::THREAD_STARTING {
+        return None;
+    }
+    from_thread(v, q, jobs, e.second)
+}
+
+// Level 4 of the jobs above one.
+#[tactic(auto, using(laws::proofs::Flow::branches), unfolding(crate::specs::Seek::above_job, model::specs::Job::on_parent))]
+fn above_job(jobs: &mut [Job; 32], job: u8) -> Option<Place>
+    ensures { climbed result jobs.new ≡ above_job jobs.old job }
+{
+    let v = jobs.get(job as usize).copied().unwrap_or(Job::none());
+    match v.parent {
+        None => None,
+        Some(i) => climb(jobs, false, i),
     }
 }
 
-// The next handler, of those that are left.
-#[tactic(auto, using(laws::proofs::Flow::branches), unfolding(crate::specs::Seek::searched))]
-fn search(stage: Stage, second: bool, v: Thread, q: Process, jobs: [Job; 32]) -> Found
-    ensures { result ≡ searched stage second v q jobs }
+// The handler after one that closed an exception without handling it.
+#[tactic(auto, using(laws::proofs::Flow::branches), unfolding(crate::specs::Seek::next_found))]
+fn next_handler(
+    e: Exception,
+    v: &mut Thread,
+    q: &mut Process,
+    jobs: &mut [Job; 32],
+) -> Option<Place>
+    ensures { found result v.new q.new jobs.new ≡ next_found e.place e v.old q.old jobs.old }
 {
-    onward(seek(stage, second, v, q), jobs)
+    match e.place {
+        Place::Debugger => after_debugger(e, v, q, jobs),
+        Place::OwnThread => from_process(q, jobs, e.second),
+        Place::OwnProcess => from_second_chance(q, jobs, e.second),
+        Place::SecondChance => climb(jobs, false, q.job),
+        Place::OfJob(j) => above_job(jobs, j),
+        Place::OfJobDebugger(_) | Place::Exiting => None,
+    }
 }
 
 // -- Delivery ---------------------------------------------------------------------------------
 
-// What 14 and 15 come to. Where the process exits, its record is marked, and the threads that it lists are to be
-// killed; it ends where it lists none.
-#[derive(Drop)]
-pub struct Raised {
-    pub answer: i64,
-    pub fields: Fields,
-    pub exits: bool,
-    pub thread: Thread,
-    pub process: Process,
-    pub jobs: [Job; 32],
-}
-
-impl Raised {
-    // A refused call: the records stay.
-    fn refused(v: Thread, q: Process, jobs: [Job; 32], answer: i64) -> Raised
-        ensures { result ≡ refused v q jobs answer }
-    {
-        Raised {
-            answer,
-            fields: Fields::NoFields,
-            exits: false,
-            thread: v,
-            process: q,
-            jobs,
-        }
-    }
-
-    // An answer with the owner of the level that has the exception, or 0; the process lives on.
-    fn shown(answer: i64, owner: u8, v: Thread, q: Process, jobs: [Job; 32]) -> Raised
-        ensures { result ≡ shown answer owner v q jobs }
-    {
-        Raised {
-            answer,
-            fields: Fields::OwnerField(owner),
-            exits: false,
-            thread: v,
-            process: q,
-            jobs,
-        }
-    }
-
-    // The record under a name past the table is handed back as it was.
-    fn kept(mut self, process: u8, q: Process) -> Raised
-        ensures { result ≡ kept process q self }
-    {
-        if 64 <= process {
-            self.process = q;
-        }
-        self
-    }
-}
-
 // The owner of a place's level.
-fn owner_in(v: Thread, thread: u8, place: Place) -> u8
-    ensures { result ≡ owner_in v thread place }
+fn owner_in(v: &Thread, thread: u8, place: Place) -> u8
+    ensures { result ≡ owner_in v.now thread place }
 {
     match place {
         Place::Debugger | Place::OwnProcess | Place::SecondChance | Place::Exiting => v.process,
@@ -394,135 +293,136 @@ fn owner_in(v: Thread, thread: u8, place: Place) -> u8
 }
 
 // The thread waits at a place.
-fn waits_at(f: Found, place: Place, thread: u8, kind: u16, second: bool) -> Raised
-    ensures { result ≡ waits_at f place thread kind second }
+fn waits_at(place: Place, thread: u8, kind: u16, second: bool, v: &mut Thread) -> Raised
+    ensures { (q : Process) → (jobs : List Job) →
+        came result v.new q jobs ≡ waits_at (found (Some place) v.old q jobs) place thread kind second }
 {
-    let v = f.thread;
-    let q = f.process;
-    let jobs = f.jobs;
     let e = Exception::at(kind, place, second);
-    let w = v.waits(ThreadState::BLOCKED_EXCEPTION, Waiting::InException(e));
-    Raised::shown(place.level() as i64, owner_in(v, thread, place), w, q, jobs)
+    *v = v.waits(ThreadState::BLOCKED_EXCEPTION, Waiting::InException(e));
+    Raised::At {
+        level: place.level(),
+        owner: owner_in(v, thread, place),
+    }
 }
 
-// Made, and not Exited.
+// Made, and not Exited: as `cascade` has it, since no crate of code below both knows the definition.
 #[tactic(auto, using(laws::proofs::Flow::branches), unfolding(model::specs::Job::is_live_process))]
-fn is_live(q: Process) -> bool
-    ensures { result ≡ is_live_process q }
+fn is_live(q: &Process) -> bool
+    ensures { result ≡ is_live_process q.now }
 {
     q.made && !q.status.is_exited()
 }
 
 // Nobody handles it: types without the bit 0x8000 also exit the process.
 #[tactic(auto, using(laws::proofs::Flow::branches), unfolding(crate::specs::Raise::unheard))]
-fn unheard(f: Found, kind: u16) -> Raised
-    ensures { result ≡ unheard f kind }
+fn unheard(kind: u16, v: &mut Thread, q: &mut Process) -> Raised
+    ensures { (jobs : List Job) → came result v.new q.new jobs ≡ unheard (found None v.old q.old jobs) kind }
 {
-    let v = f.thread;
-    let q = f.process;
-    let jobs = f.jobs;
-    let w = v.end_wait();
-    if ExceptionType::SYNTH <= kind {
-        return Raised::shown(ZxError::NEXT, 0, w, q, jobs);
+    *v = v.end_wait();
+    if ExceptionType::SYNTH <= kind || !is_live(q) {
+        return Raised::Next;
     }
-    if !is_live(q) {
-        return Raised::shown(ZxError::NEXT, 0, w, q, jobs);
-    }
-    let marked = q.with_status(Status::Exited(Process::KILL_CODE));
-    Raised {
-        answer: ZxError::NEXT,
-        fields: Fields::OwnerField(0),
-        exits: true,
-        thread: w,
-        process: marked,
-        jobs,
-    }
+    q.status = Status::Exited(Process::KILL_CODE);
+    Raised::Exits
 }
 
 #[tactic(auto, using(laws::proofs::Flow::branches), unfolding(crate::specs::Raise::delivers))]
-fn deliver(f: Found, thread: u8, kind: u16, second: bool) -> Raised
-    ensures { result ≡ delivers f.at f thread kind second }
+fn deliver(
+    at: Option<Place>,
+    thread: u8,
+    kind: u16,
+    second: bool,
+    v: &mut Thread,
+    q: &mut Process,
+) -> Raised
+    ensures { (jobs : List Job) →
+        came result v.new q.new jobs ≡ delivers at (found at v.old q.old jobs) thread kind second }
 {
-    match f.at {
-        None => unheard(f, kind),
-        Some(place) => waits_at(f, place, thread, kind, second),
+    match at {
+        None => unheard(kind, v, q),
+        Some(place) => waits_at(place, thread, kind, second, v),
     }
 }
 
 // ThreadExiting leaves the state; a killed thread sends it and is stopped.
 #[tactic(auto, using(laws::proofs::Flow::branches), unfolding(crate::specs::Raise::exits_to))]
-fn exits_to(f: Found, kind: u16) -> Raised
-    ensures { result ≡ exits_to f.at f kind }
+fn exits_to(at: Option<Place>, kind: u16, v: &mut Thread) -> Raised
+    ensures { (q : Process) → (jobs : List Job) →
+        came result v.new q jobs ≡ exits_to at (found at v.old q jobs) kind }
 {
-    let at = f.at;
-    let v = f.thread;
-    let q = f.process;
-    let jobs = f.jobs;
     let Some(place) = at else {
-        return Raised::shown(ZxError::NEXT, 0, v, q, jobs);
+        return Raised::Next;
     };
     if v.killed {
-        return Raised::shown(ZxError::STOP, 0, v, q, jobs);
+        return Raised::Stop;
     }
-    let e = Exception::at(kind, place, false);
-    let w = v.waits(v.state, Waiting::InException(e));
-    Raised::shown(1, v.process, w, q, jobs)
+    v.waiting = Waiting::InException(Exception::at(kind, place, false));
+    Raised::At {
+        level: 1,
+        owner: v.process,
+    }
 }
 
 // -- The calls --------------------------------------------------------------------------------
 
-// A name past the table stands for a process never made.
-#[tactic(auto, using(laws::proofs::Flow::branches), unfolding(crate::specs::Raise::own_process))]
-fn own_process(process: u8, q: Process) -> Process
-    ensures { result ≡ own_process process q }
-{
-    if 64 <= process {
-        return Process::none();
-    }
-    q
-}
-
 // While Dying, types but ThreadExiting deliver nothing.
 #[tactic(auto, using(laws::proofs::Flow::branches), unfolding(crate::specs::Raise::is_stopped))]
-fn is_stopped(v: Thread, kind: u16) -> bool
-    ensures { result ≡ is_stopped v kind }
+fn is_stopped(v: &Thread, kind: u16) -> bool
+    ensures { result ≡ is_stopped v.now kind }
 {
     kind != ExceptionType::THREAD_EXITING && v.state == ThreadState::DYING
 }
 
 #[tactic(auto, using(laws::proofs::Flow::branches), unfolding(crate::specs::Raise::raises))]
-fn raise(thread: u8, kind: u16, route: Route, v: Thread, q: Process, jobs: [Job; 32]) -> Raised
-    ensures { result ≡ raises thread kind route v q jobs }
+fn raise(
+    thread: u8,
+    kind: u16,
+    route: Route,
+    v: &mut Thread,
+    q: &mut Process,
+    jobs: &mut [Job; 32],
+) -> Raised
+    ensures { came result v.new q.new jobs.new ≡ raises thread kind route v.old q.old jobs.old }
 {
     if is_stopped(v, kind) {
-        return Raised::shown(ZxError::STOP, 0, v, q, jobs);
+        return Raised::Stop;
     }
-    let f = search(first_stage(route, q), false, v, q, jobs);
+    let at = first_handler(route, v, q, jobs);
     if kind == ExceptionType::THREAD_EXITING {
-        return exits_to(f, kind);
+        return exits_to(at, kind, v);
     }
-    deliver(f, thread, kind, false)
+    deliver(at, thread, kind, false, v, q)
 }
 
-// 14: `CurrentThread::handle_exception`; q is the process of the thread, by its place in the table.
-pub fn handle_exception(thread: u8, kind: u16, v: Thread, q: Process, jobs: [Job; 32]) -> Raised
-    ensures { Raises (λ t. raise_exception t thread kind) thread v q jobs result }
+// 14: `CurrentThread::handle_exception`; q is the process of the thread, by its place in the table. A name past the
+// table stands for a process never made.
+#[tactic(auto, using(crate::proofs::Raising::raising), unfolding(model::specs::ExceptionCalls::raise_exception))]
+pub fn handle_exception(
+    thread: u8,
+    kind: u16,
+    v: &mut Thread,
+    q: &mut Process,
+    jobs: &mut [Job; 32],
+) -> Result<Raised, Refusal>
+    ensures { Raises (λ t. raise_exception t thread kind) thread v.old q.old jobs.old v.new q.new jobs.new result }
 {
     let route = route_of(kind);
     if is_no_type(route) {
-        return Raised::refused(v, q, jobs, Refusal::BAD_FIELD);
+        return Err(Refusal::BadField);
     }
     if 128 <= thread {
-        return Raised::refused(v, q, jobs, Refusal::PAST_TABLE);
+        return Err(Refusal::PastTable);
     }
     let Some(w) = v.found() else {
-        return Raised::refused(v, q, jobs, Refusal::NOT_MADE);
+        return Err(Refusal::NotMade);
     };
     if !w.is_free() {
-        return Raised::refused(v, q, jobs, Refusal::OUT_OF_TURN);
+        return Err(Refusal::OutOfTurn);
     }
-    let own = own_process(v.process, q);
-    raise(thread, kind, route, v, own, jobs).kept(v.process, q)
+    if 64 <= v.process {
+        return Ok(raise(thread, kind, route, v, &mut Process::none(), jobs));
+    }
+    Ok(raise(thread, kind, route, v, q, jobs))
 }
 
 // ProcessStarting and ThreadExiting are over at their first closing.
@@ -534,29 +434,44 @@ fn is_over(e: Exception) -> bool
 }
 
 #[tactic(auto, using(laws::proofs::Flow::branches), unfolding(crate::specs::Raise::closes))]
-fn close_held(thread: u8, e: Exception, v: Thread, q: Process, jobs: [Job; 32]) -> Raised
-    ensures { result ≡ closes thread e v q jobs }
+fn close_held(
+    thread: u8,
+    e: Exception,
+    v: &mut Thread,
+    q: &mut Process,
+    jobs: &mut [Job; 32],
+) -> Raised
+    ensures { came result v.new q.new jobs.new ≡ closes thread e v.old q.old jobs.old }
 {
     if is_over(e) {
-        return Raised::shown(0, 0, v.end_wait(), q, jobs);
+        *v = v.end_wait();
+        return Raised::Over;
     }
-    let f = search(next_stage(e, q, jobs), e.second, v, q, jobs);
-    deliver(f, thread, e.kind, e.second)
+    let at = next_handler(e, v, q, jobs);
+    deliver(at, thread, e.kind, e.second, v, q)
 }
 
 // 15: the handler lets the exception object go.
-pub fn close(thread: u8, v: Thread, q: Process, jobs: [Job; 32]) -> Raised
-    ensures { Raises (λ t. close_exception t thread) thread v q jobs result }
+#[tactic(auto, using(crate::proofs::Raising::raising), unfolding(model::specs::ExceptionCalls::close_exception))]
+pub fn close(
+    thread: u8,
+    v: &mut Thread,
+    q: &mut Process,
+    jobs: &mut [Job; 32],
+) -> Result<Raised, Refusal>
+    ensures { Raises (λ t. close_exception t thread) thread v.old q.old jobs.old v.new q.new jobs.new result }
 {
     if 128 <= thread {
-        return Raised::refused(v, q, jobs, Refusal::PAST_TABLE);
+        return Err(Refusal::PastTable);
     }
     let Some(w) = v.found() else {
-        return Raised::refused(v, q, jobs, Refusal::NOT_MADE);
+        return Err(Refusal::NotMade);
     };
     let Some(e) = w.exception() else {
-        return Raised::refused(v, q, jobs, Refusal::OUT_OF_TURN);
+        return Err(Refusal::OutOfTurn);
     };
-    let own = own_process(v.process, q);
-    close_held(thread, e, v, own, jobs).kept(v.process, q)
+    if 64 <= v.process {
+        return Ok(close_held(thread, e, v, &mut Process::none(), jobs));
+    }
+    Ok(close_held(thread, e, v, q, jobs))
 }

@@ -1,51 +1,37 @@
--- How a `return` of a call on a thread's exception meets the call's definition: each looks up the thread, and its
--- exception, before all else.
---     past_table, no_thread, no_exception    what refuses it there
---     held, kept, kept_waiting               what it comes to with the exception: the thread as it was, or waiting on
+-- How a `return` of a call on a thread's exception meets the call's definition.
+--     is_held, not_held    the thread looked up, with its exception, and with none
+--     kept_waiting         the thread waits on
 -- Assumes nothing.
-use Rattle.std.proofs.Common.{Option, Some, None, Ok, Err}
-use Prim.Native.Nat.{ℕ, ◌%◌, ◌<◌, ◌≤◌}
+use Rattle.std.proofs.Common.{Option, Some, None, Ok}
+use Prim.Native.Nat.{ℕ, ◌%◌, ◌<◌}
 use mathlib.Core.Path.{◌≡◌, ap, ◌∙◌}
 use lib.IntN.{pos}
 use Rattle.laws.specs.Choice.{◌≤?◌}
-use Rattle.laws.specs.Guarded.{Guarded, guard, ◌>>◌, ◌>>=◌}
-use Rattle.error.specs.declared.Refusal.TheVariants.{PastTable, NotMade, OutOfTurn}
+use Rattle.laws.specs.Guarded.{Guarded, ◌>>◌, ◌>>=◌, refuse◌when◌}
 use Rattle.record_exception.specs.declared.Exception.{Exception}
 use Rattle.record_thread.specs.declared.Thread.{Thread}
 use Rattle.record_thread.specs.declared.Waiting.TheVariants.{InException}
 use Rattle.record_thread.specs.Thread.{found_thread_in, exception_of, waits}
 use Rattle.records.specs.declared.tables.Tables.{Tables}
 use Rattle.records.specs.Tables.{thread_at, put_thread}
-use Rattle.records.proofs.Kept.{thread_kept, thread_is}
+use Rattle.records.proofs.Kept.{thread_is}
 use Rattle.reply.specs.declared.Reply.{Reply}
 use Rattle.reply.specs.Reply.{answered}
 use Rattle.model.specs.Replies.{call, thread, exception}
+use Rattle.model.proofs.Answering.{the_exception, no_exception}
 use Rattle.thread.specs.Move.{settled}
-use Rattle.thread.proofs.Moving.{moving, settles_stored}
+use Rattle.thread.proofs.Moving.{is_found, settles_stored}
 
--- a call on the exception of thread n, where f goes on with both
-abbrev pub over : Tables → ℕ → (Thread → Exception → Guarded Reply) → Reply
-over t n f = call t (guard (pos 101) (128 ≤? n) >> (thread t n >>= (λ v. exception v >>= (λ e. f v e))))
+module _ {x : Reply} (t : Tables) (n : ℕ) {v w : Thread} {g : Option Thread} {d : Option Exception}
+    (k : Thread → Exception → Guarded Reply) (h : n < 128) (e : thread_at t (n % 128) ≡ v)
+    (f : g ≡ found_thread_in v) (p : g ≡ Some w) (l : d ≡ exception_of w) where
+  pub is_held : {y : Exception} → d ≡ Some y → x ≡ call t (k w y) →
+      x ≡ call t (refuse 101 when 128 ≤? n >> (thread t n >>= λ u. exception u >>= λ y. k u y))
+  is_held q r = is_found t n _ h e f p (the_exception t _ _ l q r)
 
-module _ (t : Tables) (n : ℕ) (f : Thread → Exception → Guarded Reply) {v : Thread}
-    (h : thread_at t (n % 128) ≡ v) where
-  pub past_table : 128 ≤ n → settled t n v (Err PastTable) ≡ over t n f
-  past_table k = search moving depth 20
-
-  module _ (k : n < 128) {g : Option Thread} (i : g ≡ found_thread_in v) where
-    pub no_thread : g ≡ None → settled t n v (Err NotMade) ≡ over t n f
-    no_thread j = search moving depth 20
-
-    module _ {w : Thread} (j : g ≡ Some w) {d : Option Exception} (l : d ≡ exception_of w) where
-      pub no_exception : d ≡ None → settled t n v (Err OutOfTurn) ≡ over t n f
-      no_exception m = search moving depth 20
-
-      pub held : {x : Reply} {e : Exception} → d ≡ Some e → x ≡ call t (f w e) → x ≡ over t n f
-      held m r = search moving depth 20
-
-pub kept : (t : Tables) (n : ℕ) {v : Thread} → thread_at t (n % 128) ≡ v → settled t n v (Ok tt) ≡ answered t (pos 0)
-unfolding settled
-kept t n h = rw (thread_kept t (n % 128) h)
+  pub not_held : d ≡ None → x ≡ answered t (pos 105) →
+      x ≡ call t (refuse 101 when 128 ≤? n >> (thread t n >>= λ u. exception u >>= λ y. k u y))
+  not_held q r = is_found t n _ h e f p (no_exception t _ _ l q r)
 
 -- the thread waits on with its exception changed to e
 pub kept_waiting : {u w : Thread} {g : Option Thread} (v : Thread) (t : Tables) (n : ℕ) (e : Exception) → n < 128 →

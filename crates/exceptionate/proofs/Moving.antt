@@ -30,11 +30,13 @@ use Rattle.reply.specs.declared.Reply.{Reply}
 use Rattle.reply.specs.Reply.{answered}
 use Rattle.model.specs.ExceptionCalls.{bad_level, bind_level, hang_up_level}
 use Rattle.model.proofs.Answering.{answering}
+use Rattle.job.specs.Job as job
+use Rattle.process.specs.Process as process
 use Rattle.thread.specs.Move.{settled}
 use Rattle.thread.proofs.Moving.{settles_stored}
 use Rattle.exceptionate.specs.declared.ChannelCall.{ChannelCall}
 use Rattle.exceptionate.specs.declared.ChannelCall.TheVariants.{CreateChannel, HangUp}
-use Rattle.exceptionate.specs.Exceptionate.{on_level, level_after, of_process, of_job, settled_process, settled_job}
+use Rattle.exceptionate.specs.Exceptionate.{on_level, level_after, of_process, of_job}
 
 -- owner n's level of this number, of `size` owners, was looked up as g
 pub record Channel (t : Tables) (level n size : ℕ) (g : Option Level) : Type 0 where
@@ -111,66 +113,66 @@ thread_put t n l k h e =
 -- ---- A process's two levels -------------------------------------------------------------------------------
 
 pub process_refused : (t : Tables) (n : ℕ) {q : Process} (e : Refusal) → process_at t (n % 64) ≡ q →
-    settled_process t n q (Err e) ≡ answered t (number_of e)
-unfolding settled_process
+    process.settled t n q (Err e) ≡ answered t (number_of e)
+unfolding process.settled
 process_refused t n e h = rw (process_kept t (n % 64) h)
 
 -- the debugger's, and the own
 pub process_debugger : (d : Bool) (q : Process) → d ≡ true → q.level1 ≡ process_level q (of_process d)
-unfolding of_process process_level if◌then◌otherwise◌
+unfolding process_level if◌then◌otherwise◌
 process_debugger d q e = rw e
 
 pub process_own : (d : Bool) (q : Process) → d ≡ false → q.level3 ≡ process_level q (of_process d)
-unfolding of_process process_level if◌then◌otherwise◌
+unfolding process_level if◌then◌otherwise◌
 process_own d q e = rw e
 
 pub channel_of_process : (d : Bool) {q : Process} (t : Tables) (n : ℕ) → process_at t (n % 64) ≡ q →
     Channel t (of_process d) n 64 (level_of_process (found_process_in q) (of_process d))
-unfolding of_process owners_of found_level found_process found_process_in if◌then◌otherwise◌ ◌or◌
+unfolding owners_of found_level found_process found_process_in if◌then◌otherwise◌ ◌or◌
 channel_of_process true t n h = record { good = refl; owners = refl; looked_up = λ k. rw (process_at_lem t n k h) refl }
 channel_of_process false t n h =
     record { good = refl; owners = refl; looked_up = λ k. rw (process_at_lem t n k h) refl }
 
 module _ (d : Bool) (t : Tables) (n : ℕ) {q : Process} (h : process_at t (n % 64) ≡ q) where
   pub process_debugger_put : {u : Process} (l : Level) → d ≡ true → n < 64 → u ≡ with_level1 q l →
-      settled_process t n u (Ok tt) ≡ answered (put_level t (of_process d) n l) (pos 0)
-  unfolding of_process settled_process put_level if◌then◌otherwise◌
+      process.settled t n u (Ok tt) ≡ answered (put_level t (of_process d) n l) (pos 0)
+  unfolding process.settled put_level if◌then◌otherwise◌
   process_debugger_put l b k e = rw (b, e, ← process_at_lem t n k h, mod-eq_of_lt k)
 
   pub process_own_put : {u : Process} (l : Level) → d ≡ false → n < 64 → u ≡ with_level3 q l →
-      settled_process t n u (Ok tt) ≡ answered (put_level t (of_process d) n l) (pos 0)
-  unfolding of_process settled_process put_level if◌then◌otherwise◌
+      process.settled t n u (Ok tt) ≡ answered (put_level t (of_process d) n l) (pos 0)
+  unfolding process.settled put_level if◌then◌otherwise◌
   process_own_put l b k e = rw (b, e, ← process_at_lem t n k h, mod-eq_of_lt k)
 
 -- ---- A job's two levels -------------------------------------------------------------------------------
 
 pub job_refused : (t : Tables) (n : ℕ) {j : Job} (e : Refusal) → job_at t (n % 32) ≡ j →
-    settled_job t n j (Err e) ≡ answered t (number_of e)
-unfolding settled_job
+    job.settled t n j (Err e) ≡ answered t (number_of e)
+unfolding job.settled
 job_refused t n e h = rw (job_kept t (n % 32) h)
 
 -- the debugger's, and the own
 pub job_debugger : (d : Bool) (j : Job) → d ≡ true → j.level5 ≡ job_level j (of_job d)
-unfolding of_job job_level if◌then◌otherwise◌
+unfolding job_level if◌then◌otherwise◌
 job_debugger d j e = rw e
 
 pub job_own : (d : Bool) (j : Job) → d ≡ false → j.level4 ≡ job_level j (of_job d)
-unfolding of_job job_level if◌then◌otherwise◌
+unfolding job_level if◌then◌otherwise◌
 job_own d j e = rw e
 
 pub channel_of_job : (d : Bool) {j : Job} (t : Tables) (n : ℕ) → job_at t (n % 32) ≡ j →
     Channel t (of_job d) n 32 (level_of_job (found_job_in j) (of_job d))
-unfolding of_job owners_of found_level found_job found_job_in if◌then◌otherwise◌ ◌or◌
+unfolding owners_of found_level found_job found_job_in if◌then◌otherwise◌ ◌or◌
 channel_of_job true t n h = record { good = refl; owners = refl; looked_up = λ k. rw (job_at_lem t n k h) refl }
 channel_of_job false t n h = record { good = refl; owners = refl; looked_up = λ k. rw (job_at_lem t n k h) refl }
 
 module _ (d : Bool) (t : Tables) (n : ℕ) {j : Job} (h : job_at t (n % 32) ≡ j) where
   pub job_debugger_put : {u : Job} (l : Level) → d ≡ true → n < 32 → u ≡ with_level5 j l →
-      settled_job t n u (Ok tt) ≡ answered (put_level t (of_job d) n l) (pos 0)
-  unfolding of_job settled_job put_level if◌then◌otherwise◌
+      job.settled t n u (Ok tt) ≡ answered (put_level t (of_job d) n l) (pos 0)
+  unfolding job.settled put_level if◌then◌otherwise◌
   job_debugger_put l b k e = rw (b, e, ← job_at_lem t n k h, mod-eq_of_lt k)
 
   pub job_own_put : {u : Job} (l : Level) → d ≡ false → n < 32 → u ≡ with_level4 j l →
-      settled_job t n u (Ok tt) ≡ answered (put_level t (of_job d) n l) (pos 0)
-  unfolding of_job settled_job put_level if◌then◌otherwise◌
+      job.settled t n u (Ok tt) ≡ answered (put_level t (of_job d) n l) (pos 0)
+  unfolding job.settled put_level if◌then◌otherwise◌
   job_own_put l b k e = rw (b, e, ← job_at_lem t n k h, mod-eq_of_lt k)

@@ -1,8 +1,7 @@
 -- The calls on a level, over the record that has it: what a call leaves, stored where the record was, is what the model
 -- says of the call, whatever else the tables hold.
 use Rattle.std.specs.Prelude.{Result, Ok, Err}
-use Rattle.std.specs.Prelude.{ℕ, ◌%◌, ◌≡◌, Bool}
-use Rattle.laws.specs.Choice.{if◌then◌otherwise◌}
+use Rattle.std.specs.Prelude.{ℕ, ◌%◌, ◌≡◌, Bool, true, false}
 use Rattle.error.specs.declared.Refusal.{Refusal}
 use Rattle.error.specs.declared.Refusal.TheVariants.{OutOfTurn, Zx}
 use Rattle.error.specs.declared.ZxError.TheVariants.{BadState, AlreadyBound}
@@ -11,11 +10,14 @@ use Rattle.record_exception.specs.declared.Level.{Level}
 use Rattle.record_exception.specs.declared.Level.TheVariants.{Unbound, Bound, HungUp, Shut}
 use Rattle.record_job.specs.declared.Job.{Job}
 use Rattle.record_process.specs.declared.Process.{Process}
+use Rattle.record_thread.specs.declared.Thread.{Thread}
 use Rattle.records.specs.declared.tables.Tables.{Tables}
-use Rattle.records.specs.Tables.{job_at, process_at, put_job, put_process}
+use Rattle.records.specs.Tables.{job_at, process_at, thread_at}
 use Rattle.reply.specs.declared.Reply.{Reply}
 use Rattle.reply.specs.Reply.{answered}
 use Rattle.model.specs.ExceptionCalls.{bind_level, hang_up_level}
+use Rattle.job.specs.Job as job
+use Rattle.process.specs.Process as process
 use Rattle.exceptionate.specs.declared.ChannelCall.{ChannelCall}
 use Rattle.exceptionate.specs.declared.ChannelCall.TheVariants.{CreateChannel, HangUp}
 
@@ -45,24 +47,24 @@ level_after HangUp l = hung_up l
 -- ---- A process's two levels, and a job's -------------------------------------------------------------
 
 -- the debugger's level, or the own
-unfoldable pub of_process : Bool → ℕ
-of_process debugger = if debugger then 1 otherwise 3
+abbrev pub of_process : Bool → ℕ
+of_process true = 1
+of_process false = 3
 
-unfoldable pub of_job : Bool → ℕ
-of_job debugger = if debugger then 5 otherwise 4
-
--- the reply that the process w and this outcome stand for
-unfoldable pub settled_process : Tables → ℕ → Process → Result Unit Refusal → Reply
-settled_process t p w r = answered (put_process t (p % 64) w) (answer_of r)
+abbrev pub of_job : Bool → ℕ
+of_job true = 5
+of_job false = 4
 
 -- the call f on process p, whose record is q, leaves it as w and comes to r
 abbrev pub SettlesProcess : (Tables → Reply) → ℕ → Process → Process → Result Unit Refusal → Type 0
-SettlesProcess f p q w r = (t : Tables) → process_at t (p % 64) ≡ q → settled_process t p w r ≡ f t
-
--- the reply that the job w and this outcome stand for
-unfoldable pub settled_job : Tables → ℕ → Job → Result Unit Refusal → Reply
-settled_job t n w r = answered (put_job t (n % 32) w) (answer_of r)
+SettlesProcess f p q w r = (t : Tables) → process_at t (p % 64) ≡ q → process.settled t p w r ≡ f t
 
 -- the call f on job n, whose record is j, leaves it as w and comes to r
 abbrev pub SettlesJob : (Tables → Reply) → ℕ → Job → Job → Result Unit Refusal → Type 0
-SettlesJob f n j w r = (t : Tables) → job_at t (n % 32) ≡ j → settled_job t n w r ≡ f t
+SettlesJob f n j w r = (t : Tables) → job_at t (n % 32) ≡ j → job.settled t n w r ≡ f t
+
+-- ---- 18: nothing is changed ------------------------------------------------------------------------
+
+-- the call f on thread n, whose record is v, comes to r
+abbrev pub Checks : (Tables → Reply) → ℕ → Thread → Result Unit Refusal → Type 0
+Checks f n v r = (t : Tables) → thread_at t (n % 128) ≡ v → answered t (answer_of r) ≡ f t

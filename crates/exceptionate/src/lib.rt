@@ -1,12 +1,13 @@
 // exceptionate: the calls on a handler's channel and on a thread's exception, over the record that they name. Follows
-// exception.rs. Each call stands here once: its refusals in document 01's order, then its effect.
+// exception.rs. Each call stands here once: its refusals in document 01's order, then its effect. A name goes beside
+// its record and not with it: past the table it is refused, and the record is not its own.
 #![tactic(auto)]
 
 ghost use Rattle.std.specs.Prelude.{◌≡◌};
 ghost use Rattle.model.specs.ExceptionCalls.{set_state, has_strategy, set_strategy, get_process_handle};
 ghost use Rattle.thread.specs.Move.{Settles};
 ghost use Rattle.exceptionate.specs.Exceptionate.{created, hung_up, level_after, on_level};
-ghost use Rattle.exceptionate.specs.Exceptionate.{of_process, SettlesProcess, of_job, SettlesJob};
+ghost use Rattle.exceptionate.specs.Exceptionate.{of_process, SettlesProcess, of_job, SettlesJob, Checks};
 
 use error::{Refusal, ZxError};
 use record_exception::{Exception, Level};
@@ -16,7 +17,7 @@ use record_thread::{Thread, Waiting};
 
 // -- Channels: what a call makes of a level ----------------------------------------------------
 
-// 12 and 13. An enum and no closure: a decoded command holds it, and `after` is the one place that tells them apart.
+// 12 and 13. An enum and no closure: the clauses of what both share name the call, and `after` alone tells them apart.
 #[derive(Clone, Copy)]
 pub enum ChannelCall {
     CreateChannel,
@@ -95,7 +96,7 @@ pub fn on_process(
     Ok(())
 }
 
-// 12 and 13 on level 5 (the debugger's) or 4, a job's.
+// 12 and 13 on level 5 (the debugger's) or 4, a job's. Apart from `on_process`: the records' levels have other names.
 pub fn on_job(call: ChannelCall, debugger: bool, job: u8, j: &mut Job) -> Result<(), Refusal>
     ensures { SettlesJob (λ t. on_level call t (of_job debugger) job) job j.old j.new result }
 {
@@ -116,6 +117,7 @@ pub fn on_job(call: ChannelCall, debugger: bool, job: u8, j: &mut Job) -> Result
 // -- What a handler sets and asks while it has an exception --------------------------------------
 
 // 16: `ExceptionObject::set_state`.
+#[tactic(auto, using(thread::proofs::Moving::settling), unfolding(model::specs::ExceptionCalls::set_state))]
 pub fn set_state(thread: u8, v: &mut Thread, state: u32) -> Result<(), Refusal>
     ensures { Settles (λ t. set_state t thread state) thread v.old v.new result }
 {
@@ -147,6 +149,7 @@ fn has_strategy(e: Exception) -> bool
 }
 
 // 17: `ExceptionObject::set_strategy`.
+#[tactic(auto, using(thread::proofs::Moving::settling), unfolding(model::specs::ExceptionCalls::set_strategy))]
 pub fn set_strategy(thread: u8, v: &mut Thread, strategy: u32) -> Result<(), Refusal>
     ensures { Settles (λ t. set_strategy t thread strategy) thread v.old v.new result }
 {
@@ -173,8 +176,9 @@ pub fn set_strategy(thread: u8, v: &mut Thread, strategy: u32) -> Result<(), Ref
 }
 
 // 18: `ExceptionObject::get_process_handle`.
+#[tactic(auto, using(thread::proofs::Moving::settling), unfolding(model::specs::ExceptionCalls::get_process_handle))]
 pub fn get_process_handle(thread: u8, v: Thread) -> Result<(), Refusal>
-    ensures { Settles (λ t. get_process_handle t thread) thread v v result }
+    ensures { Checks (λ t. get_process_handle t thread) thread v result }
 {
     if 128 <= thread {
         return Err(Refusal::PastTable);

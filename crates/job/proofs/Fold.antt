@@ -1,6 +1,6 @@
 -- One pass over a list comes to what `set_policy_basic` says of it: the check of every entry first,
 -- then the entries in order.
---     one_pass, one_pass_at    what is answered then is the definition's answer
+--     one_pass_at              what is answered then is the definition's answer
 --     set_there, unset_there   whether the parent set a condition
 --     pass_next, pass_end      a turn of a loop over the list, and its end
 -- Assumes nothing.
@@ -28,7 +28,7 @@ use Rattle.model.specs.JobCalls.{set_policy_basic}
 use Rattle.model.specs.JobPolicy.{is_set, bad_entry, Setting, setting, set_each, set_policy}
 use Rattle.job_policy.specs.Policy.{apply}
 use Rattle.job.specs.declared.policy.Work.{Work}
-use Rattle.job.specs.Work.{start_work, begin_work, enter_work, step_work, finish_work}
+use Rattle.job.specs.Work.{start_work, enter_work, step_work, finish_work}
 use Rattle.job.specs.Work.{after_each, setting_of, answer_with}
 
 -- ---- Whether the parent set a condition: g is what the code found, h what the definition asks -----------------
@@ -127,16 +127,19 @@ unfolding answer_with
 spoils t j option bad s e =
     by (1 <? option) (λ h. stops _ _ _ h) (λ h. passes _ _ _ h (stops _ _ _ e))
 
-module _ (t : Tables) (j option : ℕ) (l : List BasicPolicy) where
-  pub one_pass : finish_work t j option (after_each (begin_work t j option) l)
-      ≡ set_policy_basic t j option l
-  unfolding begin_work finish_work set_policy_basic set_policy answer_with ◌or◌
-  one_pass =
-      let w = after_each (begin_work t j option) l in
-      let bad : w.bad ≡ any bad_entry l = bad_is (begin_work t j option) l in
-      by (any bad_entry l)
-      (λ y. sym (spoils t j option w.bad _ (bad ∙ y)) ∙ spoils t j option _ _ y)
-      (λ n. ap₂ (answer_with t j option) bad (pass_is (begin_work t j option) l refl n))
+-- what is known before the first entry
+abbrev begin : Tables → ℕ → ℕ → Work
+begin t j option = start_work (own_at t j) (inherited_at t j) option
+
+one_pass : (t : Tables) (j option : ℕ) (l : List BasicPolicy) →
+    finish_work t j option (after_each (begin t j option) l) ≡ set_policy_basic t j option l
+unfolding finish_work set_policy_basic set_policy answer_with ◌or◌
+one_pass t j option l =
+    let w = after_each (begin t j option) l in
+    let bad : w.bad ≡ any bad_entry l = bad_is (begin t j option) l in
+    by (any bad_entry l)
+    (λ y. sym (spoils t j option w.bad _ (bad ∙ y)) ∙ spoils t j option _ _ y)
+    (λ n. ap₂ (answer_with t j option) bad (pass_is (begin t j option) l refl n))
 
 -- past the table what the list sets does not matter either
 past : (t : Tables) (j option : ℕ) (bad : Bool) (s u : Setting) → 32 ≤ j →
@@ -150,21 +153,22 @@ past t j option bad s u h =
     let out : (x : Setting) → at x = λ x. passes _ _ _ a (passes _ _ _ b (stops _ _ _ (le-leb 32 j h))) in
     sym (out s) ∙ out u))
 
--- the same where the policies were read at the place of the name
+-- the policies were read at the place of the name
 pub one_pass_at : (t : Tables) (j option : ℕ) (l : List BasicPolicy) {own inherited : JobPolicy} (w : Work) →
-    w ≡ after_each (start_work own inherited option) l → own_at t (j % 32) ≡ own → inherited_at t (j % 32) ≡ inherited →
+    w ≡ after_each (start_work own inherited option) l →
+    own_at t (j % 32) ≡ own → inherited_at t (j % 32) ≡ inherited →
     finish_work t j option w ≡ set_policy_basic t j option l
-unfolding finish_work set_policy_basic set_policy begin_work
+unfolding finish_work set_policy_basic set_policy
 one_pass_at t j option l {own} {inherited} w e o i =
+    let u = after_each (begin t j option) l in
     by (32 ≤? j)
     (λ h.
-    let bad : w.bad ≡ (after_each (begin_work t j option) l).bad =
-    ap (λ (x : Work). x.bad) e ∙ bad_is (start_work own inherited option) l ∙ sym (bad_is (begin_work t j option) l) in
-    rw bad (past t j option _ (setting_of w) (setting_of (after_each (begin_work t j option) l)) (leb-true 32 j h))
-    ∙ one_pass t j option l)
+    let bad : w.bad ≡ u.bad =
+    ap (λ (x : Work). x.bad) e ∙ bad_is (start_work own inherited option) l ∙ sym (bad_is (begin t j option) l) in
+    rw bad (past t j option _ (setting_of w) (setting_of u) (leb-true 32 j h)) ∙ one_pass t j option l)
     (λ h.
     let here : j % 32 ≡ j = mod-eq_of_lt (leb-false 32 j h) in
-    let same : w ≡ after_each (begin_work t j option) l = e ∙ rw (← o, ← i, here) in
+    let same : w ≡ u = e ∙ rw (← o, ← i, here) in
     rw same (one_pass t j option l))
 
 -- ---- A loop: the entries from i on. d is what stands past the list's end -----------------------

@@ -3,7 +3,7 @@
 --     unkilled, was_killed, kills_here, kills_on   02: refused, killed already, the kill stays with the job, or goes on
 --     unset, sets_some, sets_all            0f: nothing is set, the entries up to a refused one, or all of them
 --     unsettled, settles                    10: the job stays, or it is stored
---     shows_info                      1b
+--     untold, tells                         1b: refused, or what is told
 -- Assumes nothing.
 use Prim.Native.Nat.{ℕ, ◌<◌}
 use native.Mathlib.Nat.{mod-eq_of_lt}
@@ -25,10 +25,9 @@ use Rattle.records.specs.declared.tables.Tables.{Tables}
 use Rattle.records.specs.Tables.{job_at, own_at, inherited_at, put_job}
 use Rattle.records.proofs.Kept.{job_kept, own_kept, inherited_kept, job_at_lem}
 use Rattle.records.proofs.Kept.{job_looked_up_at, new_job_lem}
-use Rattle.reply.specs.declared.Fields.{Fields}
+use Rattle.reply.specs.declared.Information.{Information}
 use Rattle.reply.specs.declared.Reply.{Reply}
-use Rattle.reply.specs.Reply.{answered, showing, shown}
-use Rattle.reply.proofs.Showing.{shows_answer}
+use Rattle.reply.specs.Reply.{answered, showing, informed}
 use Rattle.model.specs.Job.{kill_job}
 use Rattle.model.specs.JobCalls.{with_child, job_info}
 use Rattle.model.specs.JobPolicy.{policy_of, policy_set}
@@ -118,11 +117,15 @@ settles t j w e l = rw (e, mod-eq_of_lt l)
 
 -- ---- 1b ----------------------------------------------------------------------------------------
 
-pub shows_info : {f : Fields} {p : JobPolicy} (t : Tables) (j : ℕ) (v : Job) {own inherited : JobPolicy} →
-    f ≡ fields_of v → p ≡ merge own inherited → j < 32 → own_at t (slot j) ≡ own →
-    inherited_at t (slot j) ≡ inherited → showing t (shown f (pos 0) p) ≡ job_info t j v
-unfolding showing job_info fields_of policy_of
-shows_info t j v e g l o i = rw (e, g, ← o, ← i, mod-eq_of_lt l)
+pub untold : {x : Reply} (t : Tables) (e : Refusal) → answered t (number_of e) ≡ x → informed t (Err e) ≡ x
+unfolding informed showing answered
+untold t e g = g
+
+pub tells : {told : Information} (t : Tables) (j : ℕ) (v : Job) {own inherited : JobPolicy} →
+    told.fields ≡ fields_of v → told.policy ≡ merge own inherited → j < 32 → own_at t (slot j) ≡ own →
+    inherited_at t (slot j) ≡ inherited → informed t (Ok told) ≡ job_info t j v
+unfolding informed showing job_info fields_of policy_of
+tells t j v e g l o i = rw (e, g, ← o, ← i, mod-eq_of_lt l)
 
 pub ruleset moving = (
   unmade,
@@ -135,6 +138,6 @@ pub ruleset moving = (
   sets_some,
   sets_all,
   settles,
-  shows_answer,
-  shows_info,
+  untold,
+  tells,
 )

@@ -1,20 +1,22 @@
 -- The calls on a job, over the records that they name: what a call leaves, stored where the records were, is what the
 -- model says of the call, whatever else the tables hold.
-use Rattle.std.specs.Prelude.{ℕ, ◌%◌, ◌≡◌, Bool, true, pos, Result, Ok, Err}
+use Rattle.std.specs.Prelude.{ℕ, ◌%◌, ◌≡◌, Bool, true, List, pos, Result, Ok, Err}
 use Rattle.laws.specs.Choice.{if◌then◌otherwise◌}
 use Rattle.error.specs.declared.Refusal.{Refusal}
 use Rattle.error.specs.Numbers.{answer_of, number_of}
+use Rattle.job_policy.specs.declared.BasicPolicy.{BasicPolicy}
 use Rattle.job_policy.specs.declared.JobPolicy.{JobPolicy}
 use Rattle.record_job.specs.declared.Job.{Job}
 use Rattle.records.specs.declared.tables.Tables.{Tables}
 use Rattle.records.specs.Tables.{job_at, own_at, inherited_at, put_job, put_own, put_inherited}
 use Rattle.reply.specs.declared.Fields.{Fields}
 use Rattle.reply.specs.declared.Fields.TheVariants.{JobFields}
+use Rattle.reply.specs.declared.Information.{Information}
 use Rattle.reply.specs.declared.Reply.{Reply}
-use Rattle.reply.specs.declared.Shown.{Shown}
-use Rattle.reply.specs.Reply.{answered, showing}
+use Rattle.reply.specs.Reply.{answered, informed}
 use Rattle.lists.specs.Alone.{kills_alone}
 use Rattle.model.specs.Job.{job_empty, kill_job}
+use Rattle.model.specs.JobCalls.{set_policy_basic}
 
 -- where a job is looked up: every name has a place in the table, and one past it is refused
 abbrev pub slot : ℕ → ℕ
@@ -61,12 +63,12 @@ Sets f job j own set empty r =
     (t : Tables) → job_at t (slot job) ≡ j → own_at t (slot job) ≡ own → job_empty t job ≡ empty →
     set_in t job set r ≡ f t
 
--- the same where the inherited policy is looked at too
-abbrev pub SetsUnder : (Tables → Reply) → ℕ → Job → (own set inherited : JobPolicy) → Bool →
+-- 0f by the list l: the inherited policy is looked at too
+abbrev pub SetsUnder : (job option : ℕ) → (l : List BasicPolicy) → Job → (own set inherited : JobPolicy) → Bool →
     Result Unit Refusal → Type 0
-SetsUnder f job j own set inherited empty r =
+SetsUnder job option l j own set inherited empty r =
     (t : Tables) → job_at t (slot job) ≡ j → own_at t (slot job) ≡ own → inherited_at t (slot job) ≡ inherited →
-    job_empty t job ≡ empty → set_in t job set r ≡ f t
+    job_empty t job ≡ empty → set_in t job set r ≡ set_policy_basic t job option l
 
 -- ---- 10: the job; empty as above -----------------------------------------------------------------------
 
@@ -81,10 +83,10 @@ Settles f job j v empty r =
 
 -- ---- 1b: nothing is changed --------------------------------------------------------------------------
 
-abbrev pub Shows : (Tables → Reply) → ℕ → Job → JobPolicy → JobPolicy → Shown → Type 0
-Shows f job j own inherited s =
+abbrev pub Shows : (Tables → Reply) → ℕ → Job → JobPolicy → JobPolicy → Result Information Refusal → Type 0
+Shows f job j own inherited r =
     (t : Tables) → job_at t (slot job) ≡ j → own_at t (slot job) ≡ own → inherited_at t (slot job) ≡ inherited →
-    showing t s ≡ f t
+    informed t r ≡ f t
 
 -- killed, terminated, slack amount, mode
 unfoldable pub fields_of : Job → Fields

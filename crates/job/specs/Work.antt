@@ -9,7 +9,6 @@ use Rattle.job_policy.specs.declared.BasicPolicy.{BasicPolicy}
 use Rattle.job_policy.specs.Policy.{get_action, apply}
 use Rattle.records.specs.declared.tables.Tables.{Tables}
 use Rattle.reply.specs.declared.Reply.{Reply}
-use Rattle.records.specs.Tables.{own_at, inherited_at}
 use Rattle.model.specs.Replies.{call, job}
 use Rattle.model.specs.Job.{job_empty}
 use Rattle.model.specs.JobPolicy.{is_set, bad_entry, Setting, setting, policy_set}
@@ -22,9 +21,6 @@ work own inherited option bad refused =
 -- before the first entry: what the job has set, and what it inherited
 abbrev pub start_work : JobPolicy → JobPolicy → ℕ → Work
 start_work own inherited option = work own inherited option false false
-
-unfoldable pub begin_work : Tables → ℕ → ℕ → Work
-begin_work t j option = start_work (own_at t j) (inherited_at t j) option
 
 -- where the parent set the condition, Absolute (0) refuses the entry and Relative skips it (M10)
 unfoldable pub enter_work : Work → BasicPolicy → Work

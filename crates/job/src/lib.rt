@@ -1,9 +1,10 @@
 // job: the calls on a job, over the records that they name. Follows job.rs. Each call stands here once: its refusals in
-// document 01's order, then its effect. specs/Job.antt says what a call leaves means for the tables.
+// document 01's order, then its effect. A job's two policies go apart, since a call is lent the one that it may change.
+// specs/Job.antt says what a call leaves means for the tables.
 #![tactic(auto)]
 
 ghost use Rattle.std.specs.Prelude.{take, ◌≡◌};
-ghost use Rattle.model.specs.JobCalls.{create_child, kill_job_call, set_policy_basic, set_policy_timer_slack};
+ghost use Rattle.model.specs.JobCalls.{create_child, kill_job_call, set_policy_timer_slack};
 ghost use Rattle.model.specs.JobCalls.{job_information};
 ghost use Rattle.job.specs.Job.{Makes, Kills, Sets, SetsUnder, Settles, fields_of, Shows};
 ghost use Rattle.job.specs.Work.{finish_work};
@@ -12,13 +13,14 @@ use error::{Refusal, ZxError};
 use job_policy::{BasicPolicy, JobPolicy, TimerSlackPolicy};
 use policy::Work;
 use record_job::Job;
-use reply::{Fields, Shown};
+use reply::{Fields, Information};
 
 pub mod policy;
 
 // -- Making ----------------------------------------------------------------------------------
 
 // 01: `Job::create_child`; w and held stand under the new name. The inherited policy is fixed when a job is made.
+// Apart from `process::create_with_ext`, its twin by its text: the record made and the size of its table differ.
 #[tactic(auto, using(crate::proofs::Moving::moving), unfolding(model::specs::JobCalls::create_child))]
 pub fn create_child(
     job: u8,
@@ -122,7 +124,7 @@ pub fn set_policy(
     inherited: JobPolicy,
     empty: bool,
 ) -> Result<(), Refusal>
-    ensures { SetsUnder (λ t. set_policy_basic t job option (take count policies)) job j own.old own.new inherited empty result }
+    ensures { SetsUnder job option (take count policies) j own.old own.new inherited empty result }
 {
     let w = policy::first(*own, inherited, option, count, policies);
     settle_policy(job, option, w, j, own, empty)
@@ -174,18 +176,22 @@ fn fields_of(v: Job) -> Fields
 
 // 1b: job information, with the policy: the inherited entries win.
 #[tactic(auto, using(crate::proofs::Moving::moving), unfolding(model::specs::JobCalls::job_information))]
-pub fn get_info(job: u8, j: Job, own: JobPolicy, inherited: JobPolicy) -> Shown
+pub fn get_info(
+    job: u8,
+    j: Job,
+    own: JobPolicy,
+    inherited: JobPolicy,
+) -> Result<Information, Refusal>
     ensures { Shows (λ t. job_information t job) job j own inherited result }
 {
     if 32 <= job {
-        return Shown::answered(Refusal::PAST_TABLE);
+        return Err(Refusal::PastTable);
     }
     let Some(v) = j.found() else {
-        return Shown::answered(Refusal::NOT_MADE);
+        return Err(Refusal::NotMade);
     };
-    Shown {
-        answer: 0,
+    Ok(Information {
         fields: fields_of(v),
         policy: own.merge(inherited),
-    }
+    })
 }

@@ -9,7 +9,8 @@ ghost use Rattle.job_policy.specs.Slack.{fresh_slack, larger, generate_new};
 
 // -- Conditions and actions ----------------------------------------------------------------
 
-// The condition under which a policy is asked.
+// The condition under which a policy is asked. A number by the scope, as an action is: a call may name one outside the
+// list, and refuses it.
 #[derive(Drop)]
 pub struct PolicyCondition;
 
@@ -47,7 +48,7 @@ impl PolicyCondition {
     pub const COUNT: u8 = 15;
 }
 
-// What is done under a condition.
+// What is done under a condition: a number, as a condition is.
 #[derive(Drop)]
 pub struct PolicyAction;
 
@@ -122,6 +123,7 @@ impl JobPolicy {
     pub fn merge(mut self, parent: JobPolicy) -> JobPolicy
         ensures { result ≡ merge self parent }
     {
+        // By index: after `iter_mut().zip(..)` no entry is known, and `array::from_fn` is told call by call.
         for i in 0..15 {
             self.action[i] = merged_action(self.action[i], parent.action[i]);
         }
@@ -138,7 +140,7 @@ pub fn cases() -> bool
 
 // -- Timer slack ---------------------------------------------------------------------------
 
-// How a timer may deviate from its deadline.
+// How a timer may deviate from its deadline: a number, by which no code decides. It is kept, and shown as it came.
 #[derive(Drop)]
 pub struct Slack;
 

@@ -2,7 +2,6 @@ pub mod Flow
 pub mod Cases
 pub mod Tables
 pub mod Loops
-pub mod Signed
 pub mod Counts
 pub mod Within
 pub mod Named

@@ -1,5 +1,6 @@
 // lines: a reply as a line of text in a lent buffer. No line has more than 128 bytes; none is begun with less room.
 // A writer stands at a place in the buffer. Each of its methods appends a text, and asks for its longest form's room.
+// By hand and not by `Display`, since a contract says each byte.
 #![tactic(auto)]
 
 ghost use Rattle.std.specs.Prelude.{◌≡◌, [], ◌∷◌, ◌-◌, ◌<◌, ◌≤◌, length};
@@ -7,12 +8,12 @@ ghost use Rattle.std.specs.Prelude.{◌++◌, ◌+◌};
 ghost use Rattle.job_policy.specs.Policy.{no_policy};
 ghost use Rattle.reply.specs.declared.Fields.TheVariants.{NoFields};
 ghost use Rattle.lines.specs.Line.{last_digits, decimal_text, signed_text, flag_text};
-ghost use Rattle.lines.specs.Line.{action_char, policy_text, fields_text};
+ghost use Rattle.lines.specs.Line.{action_char, policy_text, job_text, process_text, thread_text, fields_text};
 ghost use Rattle.lines.specs.Line.{field, line_of, stop_line, within, Put};
 ghost use Rattle.lines.specs.Writer.{HasRoom, Appends};
 
-use job_policy::JobPolicy;
-use reply::Fields;
+use job_policy::{JobPolicy, PolicyCondition};
+use reply::{Fields, Shown};
 
 // No line is longer.
 pub const LINE: usize = 128;
@@ -61,6 +62,7 @@ impl<'a> Writer<'a> {
         requires { HasRoom self.old N }
         ensures { Appends N self.old self.new (last_digits N n) }
     {
+        // Counted: it goes from the last to the first, and nothing is known of the bytes after `iter_mut().rev()`.
         let mut left = n;
         for i in 0..N {
             self.out[self.at + (N - 1 - i)] = b'0' + (left % 10) as u8;
@@ -140,12 +142,47 @@ impl<'a> Writer<'a> {
         ensures { Appends 16 self.old self.new (field (policy_text policy)) }
     {
         self.byte(b' ');
-        for condition in 0..15 {
+        // Counted: a condition is a number, and `get_action` says what its entry means.
+        for condition in 0..PolicyCondition::COUNT {
             self.byte(action_char(policy.get_action(condition)));
         }
     }
 
-    // -- A line ----------------------------------------------------------------------------
+    // -- The fields of a call --------------------------------------------------------------
+
+    #[inline(always)]
+    fn job(&mut self, killed: bool, terminated: bool, amount: i64, mode: u8, policy: JobPolicy)
+        requires { HasRoom self.old 63 }
+        ensures { Appends 63 self.old self.new (job_text killed terminated amount mode policy) }
+    {
+        self.flag(killed);
+        self.flag(terminated);
+        self.signed(amount);
+        self.decimal(mode as u64);
+        self.policy(policy)
+    }
+
+    #[inline(always)]
+    fn process(&mut self, code: i64, started: bool, exited: bool, debugger: bool, terminated: bool)
+        requires { HasRoom self.old 30 }
+        ensures { Appends 30 self.old self.new (process_text code started exited debugger terminated) }
+    {
+        self.signed(code);
+        self.flag(started);
+        self.flag(exited);
+        self.flag(debugger);
+        self.flag(terminated)
+    }
+
+    #[inline(always)]
+    fn thread(&mut self, state: u16, level: u8, suspends: u16)
+        requires { HasRoom self.old 63 }
+        ensures { Appends 63 self.old self.new (thread_text state level suspends) }
+    {
+        self.decimal(state as u64);
+        self.decimal(level as u64);
+        self.decimal(suspends as u64)
+    }
 
     #[inline(always)]
     fn fields(&mut self, fields: Fields, policy: JobPolicy)
@@ -160,37 +197,23 @@ impl<'a> Writer<'a> {
                 terminated,
                 amount,
                 mode,
-            } => {
-                self.flag(killed);
-                self.flag(terminated);
-                self.signed(amount);
-                self.decimal(mode as u64);
-                self.policy(policy)
-            }
+            } => self.job(killed, terminated, amount, mode, policy),
             Fields::ProcessFields {
                 code,
                 started,
                 exited,
                 debugger,
                 terminated,
-            } => {
-                self.signed(code);
-                self.flag(started);
-                self.flag(exited);
-                self.flag(debugger);
-                self.flag(terminated)
-            }
+            } => self.process(code, started, exited, debugger, terminated),
             Fields::ThreadFields {
                 state,
                 level,
                 suspends,
-            } => {
-                self.decimal(state as u64);
-                self.decimal(level as u64);
-                self.decimal(suspends as u64)
-            }
+            } => self.thread(state, level, suspends),
         }
     }
+
+    // -- A line ----------------------------------------------------------------------------
 
     // What each line of a call begins with.
     #[inline(always)]
@@ -238,28 +261,24 @@ fn put_fields(out: &mut [u8], at: usize, fields: Fields, policy: JobPolicy) -> u
     writer.at
 }
 
-// -- What others call: nothing is written where there is no room ---------------------------
+// -- What others call: nothing is written where there is no room. By the place, which a caller has anyway
 
-// The line of a call.
-pub fn put_line(
-    out: &mut [u8],
-    at: usize,
-    number: u64,
-    answer: i64,
-    fields: Fields,
-    policy: JobPolicy,
-) -> usize
+// The line of a call. Most show no field.
+pub fn put_line(out: &mut [u8], at: usize, number: u64, shown: Shown) -> usize
     ensures put { Put out.old out.new at result
-        (within (length out.old - at) (line_of number answer fields policy)) }
+        (within (length out.old - at) (line_of number shown.answer shown.fields shown.policy)) }
     ensures upper_bound { result ≤ at + 128 }
 {
+    if let Fields::NoFields = shown.fields {
+        return put_answer(out, at, number, shown.answer);
+    }
     if out.len().saturating_sub(at) < LINE {
         return at;
     }
     let mut writer = Writer { out, at };
-    writer.head(number, answer);
+    writer.head(number, shown.answer);
     let head_end = writer.at;
-    writer.at = put_fields(writer.out, head_end, fields, policy);
+    writer.at = put_fields(writer.out, head_end, shown.fields, shown.policy);
     writer.byte(b'\n');
     writer.at
 }

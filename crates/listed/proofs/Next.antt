@@ -1,6 +1,7 @@
 -- The scans of a table for a record that passes a test.
 --     any_is                                 the library's test of every element
 --     next_here, next_on_lem, next_end       a step of the loop that finds the next
+--     among, next_small                      the first 256 of a table
 --     found_next, found_none                 where the loop stands at its return
 --     Found, next_is, next_none              what was found
 -- Assumes nothing.
@@ -10,8 +11,8 @@ use native.Mathlib.Omega.{arith}
 use mathlib.Core.Path.{◌≡◌, refl, sym, ap, ◌∙◌}
 use mathlib.Core.Bool.{Bool, true, false}
 use mathlib.Core.List.{List, [], ◌∷◌}
-use lib.ListN.{length, get_or, drop, length-drop, drop_of_length-le}
-use lib.Seq.{drop-cons, get_or-drop}
+use lib.ListN.{length, get_or, take, drop, length-drop, drop_of_length-le}
+use lib.Seq.{drop-cons, get_or-drop, get_or-take, take_all}
 use borrow.Author.Tests.{lt-ltb, le-ltb, ltb-true, ltb-false}
 use Rattle.std.specs.Prelude.{Option, Some, None, is_some}
 use Rattle.std.specs.List.{list_any}
@@ -38,6 +39,16 @@ module _ {A : Type 0} (f : A → Bool) (l : List A) (i : ℕ) where
   pub next_end : length l ≤ i → i ≡ next f l i
   unfolding next skipped
   next_end h = rw (drop_of_length-le l h) (omega arith)
+
+-- an element is the same among the first 256
+pub among : {A : Type 0} (f : A → Bool) (l : List A) (i : ℕ) (d : A) → i < 256 →
+    f (get_or l i d) ≡ f (get_or (take 256 l) i d)
+among f l i d h = ap f (sym (get_or-take 256 l i d h))
+
+-- a table of no more than 256 is all of it
+pub next_small : {A : Type 0} {r : Option ℕ} (f : A → Bool) (l : List A) (i n : ℕ) →
+    r ≡ next_in f (take 256 l) i → length l ≡ n → n ≤ 256 → r ≡ next_in f l i
+next_small f l i n s e h = s ∙ rw (take_all 256 l (omega (arith, e, h)))
 
 module _ {A : Type 0} (f : A → Bool) (l : List A) (i : ℕ) where
   -- the loop stands at k, and found it there, or came to the end

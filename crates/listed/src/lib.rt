@@ -2,7 +2,7 @@
 // of it. The same for the children of a job, its processes, and the threads of a process.
 #![tactic(auto)]
 
-ghost use Rattle.std.specs.Prelude.{ℕ, Bool, ◌≡◌, ◌≤◌};
+ghost use Rattle.std.specs.Prelude.{ℕ, Bool, ◌≡◌, take};
 ghost use Rattle.laws.specs.Lists.{any};
 ghost use Rattle.record_job.specs.Job.{child_of};
 ghost use Rattle.record_process.specs.Process.{member_of};
@@ -56,13 +56,14 @@ pub fn any_on<T: Listed, const N: usize>(table: &[T; N], owner: u8) -> bool
     table.iter().any(|v| v.is_on(owner))
 }
 
-// The next that the owner lists, from a name on.
+// The next that the owner lists, from a name on; no place past 255 is a name. It counts: as
+// `enumerate().take(256).skip(from).find(..)` it was tried, and what is found was not shown to be the next.
 pub fn next_on<T: Listed, const N: usize>(table: &[T; N], owner: u8, from: u8) -> Option<u8>
-    ensures { N ≤ 256 → result ≡ next_in (λ v. T.is_on v owner) table.now from }
+    ensures { result ≡ next_in (λ v. T.is_on v owner) (take 256 table.now) from }
 {
-    for i in from as usize..N {
+    for i in from as usize..N.min(256) {
         if table[i].is_on(owner) {
-            return u8::try_from(i).ok();
+            return Some(i as u8);
         }
     }
     None

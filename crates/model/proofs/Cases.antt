@@ -43,6 +43,7 @@ use Rattle.record_job.specs.Job.{child_of}
 use Rattle.record_process.specs.Process.{ended, acts, member_of}
 use Rattle.record_thread.specs.Thread.{hides, shown_state, is_live, is_free, thread_of, kill, exit}
 use Rattle.record_thread.specs.Thread.{suspend, resume, end_wait}
+use Rattle.record_token.specs.SuspendToken.{kind_of}
 use Rattle.reply.specs.Reply.{reply, answered}
 use Rattle.records.specs.Tables.{fresh_tables, job_at, own_at, inherited_at, process_at, fixed_at}
 use Rattle.records.specs.Tables.{thread_at, token_at, found_job, found_process, found_thread}
@@ -69,7 +70,7 @@ unfolding Run get_action apply merged_action merge larger generate_new ◌and◌
     found_task child_of ended acts member_of hides shown_state is_live is_free thread_of kill
     exit suspend resume end_wait reply answered fresh_tables job_at own_at inherited_at process_at fixed_at thread_at
     token_at found_job found_process found_thread found_token put_job put_own put_inherited put_process put_fixed
-    put_thread put_token
+    put_thread put_token kind_of
 cases =
     record {
       m1 = (policy.cases).m1;

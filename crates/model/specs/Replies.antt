@@ -9,7 +9,7 @@ use Rattle.record_job.specs.declared.Job.{Job}
 use Rattle.record_process.specs.declared.Process.{Process}
 use Rattle.record_thread.specs.declared.Thread.{Thread}
 use Rattle.record_thread.specs.Thread.{exception_of}
-use Rattle.record_token.specs.declared.SuspendToken.{SuspendToken}
+use Rattle.record_token.specs.declared.Task.{Task}
 use Rattle.records.specs.declared.tables.Tables.{Tables}
 use Rattle.reply.specs.declared.Reply.{Reply}
 use Rattle.records.specs.Owners.{found_level, found_task}
@@ -39,7 +39,7 @@ process t p = present (found_process t p)
 abbrev pub thread : Tables → ℕ → Result Thread
 thread t n = present (found_thread t n)
 
-abbrev pub token : Tables → ℕ → Result SuspendToken
+abbrev pub token : Tables → ℕ → Result Task
 token t k = present (found_token t k)
 
 -- ---- An exception that a handler has: 105 where there is none --------------------------------

@@ -6,7 +6,7 @@ use Rattle.laws.specs.Choice.{◌=?◌, ◌and◌, if◌then◌otherwise◌}
 use Rattle.laws.specs.Lists.{any}
 use Rattle.record_thread.specs.declared.Thread.{Thread}
 use Rattle.record_thread.specs.Thread.{suspend, resume, thread_of}
-use Rattle.record_token.specs.SuspendToken.{new_token, drop}
+use Rattle.record_token.specs.SuspendToken.{kind_of, new_token, drop}
 use Rattle.records.specs.declared.tables.Tables.{Tables}
 use Rattle.records.specs.Tables.{thread_at, token_at, put_thread, put_token, with_threads}
 
@@ -37,7 +37,7 @@ resume_task t kind n = change_task resume t kind n
 
 -- making a token suspends its task, dropping it resumes
 unfoldable pub create_token : Tables → ℕ → ℕ → ℕ → Tables
-create_token t k kind n = put_token (suspend_task t kind n) k (new_token kind n)
+create_token t k kind n = put_token (suspend_task t kind n) k (new_token (kind_of kind) n)
 
 unfoldable pub drop_token : Tables → ℕ → ℕ → ℕ → Tables
 drop_token t k kind n = put_token (resume_task t kind n) k (drop (token_at t k))

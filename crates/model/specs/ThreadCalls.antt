@@ -11,6 +11,7 @@ use Rattle.record_thread.specs.declared.Thread.{Thread}
 use Rattle.record_thread.specs.Thread.{DYING, FULL, new_thread, start, kill, exit, shown_state}
 use Rattle.record_thread.specs.Thread.{is_free, is_in_wait, waits, end_wait}
 use Rattle.record_exception.specs.Exception.{current_level}
+use Rattle.record_token.specs.SuspendToken.{number}
 use Rattle.records.specs.declared.tables.Tables.{Tables}
 use Rattle.reply.specs.declared.Fields.TheVariants.{ThreadFields}
 use Rattle.reply.specs.declared.Reply.{Reply}
@@ -151,9 +152,9 @@ create_token_call t new kind n = call t do
 unfoldable pub drop_token_call : Tables → ℕ → Reply
 drop_token_call t k = call t do
   refuse 101 when 64 ≤? k
-  v ← token t k
-  refuse 106 when some_at t v.kind v.name 0
-  accept (drop_token t k v.kind v.name)
+  held ← token t k
+  refuse 106 when some_at t (number held.kind) held.name 0
+  accept (drop_token t k (number held.kind) held.name)
 
 -- 1e: `Task::suspend`
 unfoldable pub suspend_call : Tables → ℕ → ℕ → Reply

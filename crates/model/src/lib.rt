@@ -29,6 +29,7 @@ pub struct Search {
 }
 
 // Carries the claims about single calls as its promise.
+#[tactic(auto, using(crate::proofs::Cases::cases, crate::proofs::Refusals::refusals, crate::proofs::Answers::answers))]
 pub fn claims() -> bool
     ensures { (result ≡ true) × Cases × Refusals × Answers }
 {

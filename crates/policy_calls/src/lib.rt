@@ -4,37 +4,26 @@
 
 ghost use Rattle.std.specs.Prelude.{◌≡◌};
 ghost use Rattle.model.specs.JobCalls.{set_policy_basic};
-ghost use Rattle.job.specs.Work.{begin_work, finish_work};
+ghost use Rattle.error.specs.Numbers.{answer_of};
+ghost use Rattle.reply.specs.Reply.{answered};
 
+use error::Refusal;
 use job::policy::Work;
 use job_policy::BasicPolicy;
-use records::reading::{inherited_at, job_at, own_at};
 use records::tables::Tables;
-use reply::Reply;
-
-// Before the first entry.
-#[tactic(auto, unfolding(job::specs::Work::begin_work))]
-fn begin(t: Tables, job: u8, option: u8) -> Work
-    ensures { result ≡ begin_work t job option }
-{
-    Work::start(own_at(t, job), inherited_at(t, job), option)
-}
-
-// After the last entry.
-fn finish(t: Tables, job: u8, option: u8, w: Work) -> Reply
-    ensures { result ≡ finish_work t job option w }
-{
-    let j = job_at(t, job % 32);
-    let mut own = own_at(t, job % 32);
-    let empty = cascade::terminate::job_empty(t, job);
-    let done = job::settle_policy(job, option, w, j, &mut own, empty);
-    job_calls::replied(t.with_own(job % 32, own), done)
-}
 
 // `Job::set_policy_basic`, with a list of any length.
-pub fn set_policy_basic(t: Tables, job: u8, option: u8, policies: &[BasicPolicy]) -> Reply
-    ensures { result ≡ set_policy_basic t job option policies.now }
+#[tactic(auto, using(job_calls::proofs::Placed::placed, job::proofs::Fold::one_pass_at), unfolding(job::specs::Job::set_in, records::specs::Tables::put_own))]
+pub fn set_policy_basic(
+    t: &mut Tables,
+    job: u8,
+    option: u8,
+    policies: &[BasicPolicy],
+) -> Result<(), Refusal>
+    ensures { answered t.new (answer_of result) ≡ set_policy_basic t.old job option policies.now }
 {
-    let w = begin(t, job, option);
-    finish(t, job, option, w.each(policies))
+    let i = (job % 32) as usize;
+    let w = Work::start(t.own[i], t.inherited[i], option).each(policies);
+    let empty = lists::job_empty(t.jobs, t.processes, job);
+    job::settle_policy(job, option, w, t.jobs[i], &mut t.own[i], empty)
 }

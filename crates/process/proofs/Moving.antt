@@ -3,7 +3,7 @@
 --     exit_refused, exited, exits     05 and 06: refused, Exited already, or it exits
 --     refused, stored                 07: the process stays, or is stored where it was
 --     panics_there, denied_there      11: what the policy fixed at its making says, as the tables have it
---     shows_info                      1c
+--     informs_refused, informs        1c
 -- Assumes nothing.
 use Rattle.std.proofs.Common.{Option, Ok, Err}
 use Rattle.error.specs.declared.Refusal.{Refusal}
@@ -22,9 +22,9 @@ use Rattle.records.specs.declared.tables.Tables.{Tables}
 use Rattle.records.specs.Tables.{own_at, inherited_at, process_at, fixed_at, put_process}
 use Rattle.records.proofs.Kept.{process_kept, fixed_kept, process_at_lem}
 use Rattle.records.proofs.Kept.{job_looked_up_at, process_looked_up_at, new_process_lem}
-use Rattle.reply.specs.declared.Shown.{Shown}
-use Rattle.reply.specs.Reply.{answered, showing, shown_fields}
-use Rattle.reply.proofs.Showing.{shows_answer, shows_fields}
+use Rattle.reply.specs.declared.Fields.{Fields}
+use Rattle.reply.specs.declared.Information.{Information}
+use Rattle.reply.specs.Reply.{answered, reply, information, informed, showing}
 use Rattle.model.specs.Job.{exit_process}
 use Rattle.model.specs.JobCalls.{with_new_process, process_info}
 use Rattle.model.specs.JobPolicy.{policy_of, panics_at, is_denied}
@@ -104,10 +104,14 @@ pub denied_there : {r b : Bool} {a : Option ℕ} {f : JobPolicy} (t : Tables) (p
     is_denied (get_action (fixed_at t p) c) ≡ b
 denied_there t p c x y e k h = sym (ap is_denied (there t p c e k h)) ∙ sym x ∙ y
 
-pub shows_info : {s : Shown} (t : Tables) (q : Process) → s ≡ shown_fields (fields_of q) →
-    showing t s ≡ process_info t q
-unfolding process_info fields_of
-shows_info t q e = shows_fields t (fields_of q) e
+pub informs_refused : (t : Tables) (e : Refusal) {c : ℤ} → number_of e ≡ c → informed t (Err e) ≡ answered t c
+unfolding informed showing answered
+informs_refused t e i = rw i
+
+pub informs : {told : Information} {fields : Fields} (t : Tables) (q : Process) →
+    told ≡ information fields → fields ≡ fields_of q → informed t (Ok told) ≡ process_info t q
+unfolding informed showing reply process_info fields_of
+informs t q e f = rw (e, f)
 
 pub ruleset moving = (
   answering,
@@ -118,8 +122,8 @@ pub ruleset moving = (
   exit_refused,
   refused,
   stored,
-  shows_answer,
-  shows_info,
+  informs_refused,
+  informs,
   panics_there,
   denied_there,
 )

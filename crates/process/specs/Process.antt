@@ -1,6 +1,6 @@
 -- The calls on a process, over the records that they name: what a call leaves, stored where the records were, is what
 -- the model says of the call, whatever else the tables hold.
-use Rattle.std.specs.Prelude.{ℕ, ◌%◌, ◌≡◌, Bool, true, false, not, ℤ, pos, Result, Ok, Err}
+use Rattle.std.specs.Prelude.{ℕ, ◌%◌, ◌≡◌, Bool, true, false, not, pos, Result, Ok, Err}
 use Rattle.error.specs.declared.Refusal.{Refusal}
 use Rattle.error.specs.Numbers.{number_of, answer_of}
 use Rattle.job_policy.specs.declared.JobPolicy.{JobPolicy}
@@ -12,9 +12,9 @@ use Rattle.records.specs.declared.tables.Tables.{Tables}
 use Rattle.records.specs.Tables.{job_at, own_at, inherited_at, process_at, fixed_at, put_process, put_fixed}
 use Rattle.reply.specs.declared.Fields.{Fields}
 use Rattle.reply.specs.declared.Fields.TheVariants.{ProcessFields}
+use Rattle.reply.specs.declared.Information.{Information}
 use Rattle.reply.specs.declared.Reply.{Reply}
-use Rattle.reply.specs.declared.Shown.{Shown}
-use Rattle.reply.specs.Reply.{answered, showing}
+use Rattle.reply.specs.Reply.{answered, informed}
 use Rattle.model.specs.Job.{at_or_above, exit_listed, kill_job}
 
 -- where a process is looked up: every name has a place in the table, and one past it is refused
@@ -62,12 +62,12 @@ Binds f p job q j above w r =
 
 -- ---- 11, 1c: nothing is changed --------------------------------------------------------------------
 
-abbrev pub Checks : (Tables → Reply) → ℕ → Process → JobPolicy → Shown → Type 0
-Checks f p q fixed s =
-    (t : Tables) → process_at t (slot p) ≡ q → fixed_at t (slot p) ≡ fixed → showing t s ≡ f t
+abbrev pub Checks : (Tables → Reply) → ℕ → Process → JobPolicy → Result Unit Refusal → Type 0
+Checks f p q fixed r =
+    (t : Tables) → process_at t (slot p) ≡ q → fixed_at t (slot p) ≡ fixed → answered t (answer_of r) ≡ f t
 
-abbrev pub Shows : (Tables → Reply) → ℕ → Process → Shown → Type 0
-Shows f p q s = (t : Tables) → process_at t (slot p) ≡ q → showing t s ≡ f t
+abbrev pub Shows : (Tables → Reply) → ℕ → Process → Result Information Refusal → Type 0
+Shows f p q r = (t : Tables) → process_at t (slot p) ≡ q → informed t r ≡ f t
 
 -- code, started, exited, debugger open, terminated
 unfoldable pub fields_of : Process → Fields

@@ -16,7 +16,7 @@ use job_policy::{JobPolicy, PolicyAction};
 use record_job::Job;
 use record_process::{Process, Status};
 use record_thread::Thread;
-use reply::{Fields, Shown};
+use reply::{Fields, Information};
 
 // -- Making and starting ---------------------------------------------------------------------
 
@@ -170,52 +170,53 @@ fn is_denied(found: Option<u8>) -> bool
 }
 
 // 11: `Process::check_policy`, by the policy fixed at its making.
-pub fn check_policy(process: u8, condition: u8, q: Process, fixed: JobPolicy) -> Shown
+#[tactic(auto, using(crate::proofs::Moving::moving), unfolding(model::specs::JobCalls::check_policy))]
+pub fn check_policy(process: u8, condition: u8, q: Process, fixed: JobPolicy) -> Result<(), Refusal>
     ensures { Checks (λ t. check_policy t process condition) process q fixed result }
 {
     if 15 <= condition {
-        return Shown::answered(Refusal::BAD_FIELD);
+        return Err(Refusal::BadField);
     }
     if 64 <= process {
-        return Shown::answered(Refusal::PAST_TABLE);
+        return Err(Refusal::PastTable);
     }
     let Some(_) = q.found() else {
-        return Shown::answered(Refusal::NOT_MADE);
+        return Err(Refusal::NotMade);
     };
     let action = fixed.get_action(condition);
     if panics_at(action) {
-        return Shown::answered(Refusal::PANICS);
+        return Err(Refusal::Panics);
     }
     if is_denied(action) {
-        return Shown::answered(ZxError::ACCESS_DENIED);
+        return Err(Refusal::Zx(ZxError::AccessDenied));
     }
-    Shown::answered(0)
+    Ok(())
 }
 
 // Code, started, exited, debugger open, terminated.
+#[tactic(auto, using(laws::proofs::Flow::told), unfolding(crate::specs::Process::fields_of))]
 fn fields_of(q: Process) -> Fields
     ensures { result ≡ fields_of q }
 {
-    let status = q.status;
-    let level1 = q.level1;
     Fields::ProcessFields {
-        code: status.code(),
-        started: !status.is_init(),
-        exited: status.is_exited(),
-        debugger: level1.is_bound(),
+        code: q.status.code(),
+        started: !q.status.is_init(),
+        exited: q.status.is_exited(),
+        debugger: q.level1.is_bound(),
         terminated: q.terminated,
     }
 }
 
 // 1c: process information.
-pub fn get_info(process: u8, q: Process) -> Shown
+#[tactic(auto, using(crate::proofs::Moving::moving), unfolding(model::specs::JobCalls::process_information))]
+pub fn get_info(process: u8, q: Process) -> Result<Information, Refusal>
     ensures { Shows (λ t. process_information t process) process q result }
 {
     if 64 <= process {
-        return Shown::answered(Refusal::PAST_TABLE);
+        return Err(Refusal::PastTable);
     }
     let Some(old) = q.found() else {
-        return Shown::answered(Refusal::NOT_MADE);
+        return Err(Refusal::NotMade);
     };
-    Shown::fields(fields_of(old))
+    Ok(Information::new(fields_of(old)))
 }

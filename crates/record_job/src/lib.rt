@@ -11,6 +11,7 @@ use record_exception::Level;
 
 #[derive(Clone, Copy, PartialEq, Eq)]
 pub struct Job {
+    // The tables are arrays of records, by the scope, so that one never made is a record too.
     pub made: bool,
     // On its parent's list.
     pub listed: bool,

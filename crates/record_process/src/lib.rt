@@ -26,6 +26,7 @@ pub struct Critical {
 
 #[derive(Clone, Copy, PartialEq, Eq)]
 pub struct Process {
+    // The tables are arrays of records, by the scope, so that one never made is a record too.
     pub made: bool,
     // On its job's list.
     pub listed: bool,

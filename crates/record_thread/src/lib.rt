@@ -66,6 +66,7 @@ pub enum Signals {
 
 #[derive(Clone, Copy, PartialEq, Eq)]
 pub struct Thread {
+    // The tables are arrays of records, by the scope, so that one never made is a record too.
     pub made: bool,
     // On its process's list.
     pub listed: bool,

@@ -2,27 +2,56 @@
 #![tactic(auto)]
 
 ghost use Rattle.std.specs.Prelude.{◌≡◌};
-ghost use Rattle.record_token.specs.SuspendToken.{found_token_in};
+ghost use Rattle.record_token.specs.SuspendToken.{number, Numbered};
 ghost use Rattle.record_token.specs.SuspendToken.{no_token, new_token, drop};
 
 // The kinds of a task.
-#[derive(Drop)]
-pub struct Kind;
+#[derive(Clone, Copy, PartialEq, Eq)]
+pub enum Kind {
+    Job,
+    Process,
+    Thread,
+}
 
 impl Kind {
-    pub const JOB: u8 = 0;
+    // The number that a call names a kind by.
+    pub fn number(self) -> u8
+        ensures { result ≡ number self }
+    {
+        match self {
+            Kind::Job => 0,
+            Kind::Process => 1,
+            Kind::Thread => 2,
+        }
+    }
+}
 
-    pub const PROCESS: u8 = 1;
+impl TryFrom<u8> for Kind {
+    type Error = ();
 
-    pub const THREAD: u8 = 2;
+    ghost try_from_gives = { Numbered };
+
+    fn try_from(number: u8) -> Result<Kind, ()> {
+        match number {
+            0 => Ok(Kind::Job),
+            1 => Ok(Kind::Process),
+            2 => Ok(Kind::Thread),
+            _ => Err(()),
+        }
+    }
+}
+
+#[derive(Clone, Copy, PartialEq, Eq)]
+pub struct Task {
+    pub kind: Kind,
+    pub name: u8,
 }
 
 #[derive(Clone, Copy, PartialEq, Eq)]
 pub struct SuspendToken {
+    // The tables are arrays of records, by the scope, so that one never made is a record too.
     pub made: bool,
-    pub held: bool,
-    pub kind: u8,
-    pub name: u8,
+    pub task: Option<Task>,
 }
 
 impl SuspendToken {
@@ -32,21 +61,17 @@ impl SuspendToken {
     {
         SuspendToken {
             made: false,
-            held: false,
-            kind: Kind::JOB,
-            name: 0,
+            task: None,
         }
     }
 
     // A token just made over a task.
-    pub fn new(kind: u8, name: u8) -> SuspendToken
+    pub fn holding(kind: Kind, name: u8) -> SuspendToken
         ensures { result ≡ new_token kind name }
     {
         SuspendToken {
             made: true,
-            held: true,
-            kind,
-            name,
+            task: Some(Task { kind, name }),
         }
     }
 
@@ -54,17 +79,14 @@ impl SuspendToken {
     pub fn drop(mut self) -> SuspendToken
         ensures { result ≡ drop self }
     {
-        self.held = false;
-        self.kind = Kind::JOB;
-        self.name = 0;
+        self.task = None;
         self
     }
 
-    // A token that still holds its task, or none: a dropped one is not found.
-    #[tactic(auto, using(laws::proofs::Flow::branches), unfolding(crate::specs::SuspendToken::found_token_in))]
-    pub fn found(self) -> Option<SuspendToken>
-        ensures { result ≡ found_token_in self }
+    // The task that it still holds, or none: a dropped one is not found.
+    pub fn found(self) -> Option<Task>
+        ensures { result ≡ self.task }
     {
-        self.held.then_some(self)
+        self.task
     }
 }

@@ -1,4 +1,1 @@
--- What the proof of `feed` cites.
-pub mod Sizes
 pub mod Turning
-pub mod Arms

@@ -21,7 +21,8 @@ use Rattle.record_process.specs.Process.{no_process, found_process_in}
 use Rattle.record_thread.specs.declared.Thread.{Thread}
 use Rattle.record_thread.specs.Thread.{no_thread, found_thread_in}
 use Rattle.record_token.specs.declared.SuspendToken.{SuspendToken}
-use Rattle.record_token.specs.SuspendToken.{no_token, found_token_in}
+use Rattle.record_token.specs.declared.Task.{Task}
+use Rattle.record_token.specs.SuspendToken.{no_token}
 use Rattle.records.specs.declared.tables.Tables.{Tables}
 use Rattle.records.specs.Tables.{job_at, own_at, inherited_at, process_at, fixed_at, thread_at, token_at}
 use Rattle.records.specs.Tables.{put_job, put_own, put_inherited, put_process, put_fixed, put_thread, put_token}
@@ -75,9 +76,9 @@ pub thread_looked_up : {g : Option Thread} (t : Tables) (n : ℕ) {v : Thread} �
 unfolding found_thread_in found_thread
 thread_looked_up t n e p = e ∙ rw (← p)
 
-pub token_looked_up : {g : Option SuspendToken} (t : Tables) (n : ℕ) {k : SuspendToken} →
-    g ≡ found_token_in k → token_at t n ≡ k → g ≡ found_token t n
-unfolding found_token_in found_token
+pub token_looked_up : {g : Option Task} (t : Tables) (n : ℕ) {k : SuspendToken} →
+    g ≡ k.task → token_at t n ≡ k → g ≡ found_token t n
+unfolding found_token
 token_looked_up t n e p = e ∙ rw (← p)
 
 -- a lookup that finds s, of a record r: it is r, and its mark is set
@@ -98,15 +99,12 @@ pub thread_is : {g : Option Thread} {r s : Thread} → g ≡ found_thread_in r �
 unfolding found_thread_in
 thread_is {r = r} {s} e f = (found_it r.made r s (sym e ∙ f)).1
 
-pub token_is : {g : Option SuspendToken} {r s : SuspendToken} → g ≡ found_token_in r → g ≡ Some s → r ≡ s
-unfolding found_token_in
-token_is {r = r} {s} e f = (found_it r.held r s (sym e ∙ f)).1
-
 pub job_made : {g : Option Job} (r : Job) {s : Job} → g ≡ found_job_in r → g ≡ Some s → r.made ≡ true
 unfolding found_job_in
 job_made r {s} e f = (found_it r.made r s (sym e ∙ f)).0
 
-pub process_made : {g : Option Process} (r : Process) {s : Process} → g ≡ found_process_in r → g ≡ Some s → r.made ≡ true
+pub process_made : {g : Option Process} (r : Process) {s : Process} → g ≡ found_process_in r → g ≡ Some s →
+    r.made ≡ true
 unfolding found_process_in
 process_made r {s} e f = (found_it r.made r s (sym e ∙ f)).0
 
@@ -152,8 +150,8 @@ new_thread_lem t n e h m = ap (λ (x : Thread). x.made) (thread_at_lem t n h e) 
 pub token_at_lem : (t : Tables) (n : ℕ) {k : SuspendToken} → n < 64 → token_at t (n % 64) ≡ k → token_at t n ≡ k
 token_at_lem t n l h = rw (← mod-eq_of_lt l) h
 
-pub token_looked_up_at : {g : Option SuspendToken} (t : Tables) (n : ℕ) {k : SuspendToken} →
-    g ≡ found_token_in k → n < 64 → token_at t (n % 64) ≡ k → g ≡ found_token t n
+pub token_looked_up_at : {g : Option Task} (t : Tables) (n : ℕ) {k : SuspendToken} →
+    g ≡ k.task → n < 64 → token_at t (n % 64) ≡ k → g ≡ found_token t n
 token_looked_up_at t n e l h = token_looked_up t n e (token_at_lem t n l h)
 
 pub new_token_lem : {k : SuspendToken} {b : Bool} (t : Tables) (n : ℕ) →

@@ -13,6 +13,7 @@ use Rattle.record_thread.specs.Thread.{no_thread}
 use Rattle.record_thread.specs.declared.Thread.{Thread}
 use Rattle.record_token.specs.SuspendToken.{no_token}
 use Rattle.record_token.specs.declared.SuspendToken.{SuspendToken}
+use Rattle.record_token.specs.declared.Task.{Task}
 use Rattle.records.specs.declared.tables.Tables.{Tables}
 
 -- at the start the root alone is made
@@ -72,9 +73,9 @@ found_process t p = if (process_at t p).made then Some (process_at t p) otherwis
 unfoldable pub found_thread : Tables → ℕ → Option Thread
 found_thread t n = if (thread_at t n).made then Some (thread_at t n) otherwise None
 
--- a dropped token is not found
-unfoldable pub found_token : Tables → ℕ → Option SuspendToken
-found_token t k = if (token_at t k).held then Some (token_at t k) otherwise None
+-- a token is found by the task that it holds: a dropped one is not
+unfoldable pub found_token : Tables → ℕ → Option Task
+found_token t k = (token_at t k).task
 
 -- ---- Writing -------------------------------------------------------------------------------
 

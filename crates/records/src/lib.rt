@@ -3,6 +3,5 @@
 // a table there is nothing.
 #![tactic(auto)]
 
-pub mod owners;
 pub mod reading;
 pub mod tables;

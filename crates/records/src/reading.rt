@@ -28,7 +28,7 @@ pub fn job_in(jobs: [Job; 32], name: u8) -> Job
     entry(&jobs, name, Job::none())
 }
 
-// -- All tables ----------------------------------------------------------------------------
+// -- All tables: one for each, since each contract names its own field ---------------------
 
 #[tactic(auto, unfolding(crate::specs::Tables::job_at))]
 pub fn job_at(t: Tables, name: u8) -> Job

@@ -1,12 +1,13 @@
 // slices: 0f by a lent list, of more entries than a command or the form by value has. Writes for each list its length,
 // the answer, the job's information with its own policy, and whether the form by value says the same.
-use crate::pair;
+use crate::{pair, prepared};
+use error::answer_of;
 use job_policy::BasicPolicy;
 use policy_calls::set_policy_basic;
 use records::reading::{job_at, own_at};
 use records::tables::{Tables, fresh_tables};
-use reply::{Fields, Reply};
-use std::io;
+use reply::{Fields, Shown};
+use std::{array, io};
 
 // -- The lists -----------------------------------------------------------------------------
 
@@ -17,58 +18,55 @@ fn entry(first: u8, k: u8) -> BasicPolicy {
 
 // Twenty entries: the last five set conditions anew, and to other actions.
 fn twenty(first: u8) -> [BasicPolicy; 20] {
-    let mut list = [pair(0, 0); 20];
-    for k in 0..20u8 {
-        list[k as usize] = entry(first, k);
-    }
-    list
+    array::from_fn(|k| entry(first, k as u8))
 }
 
 // -- A line --------------------------------------------------------------------------------
 
 // The job's information, with its own policy in place of the merged one.
-fn put(rt: &impl Print, number: u8, job: u8, reply: &Reply, end: &str) -> io::Result<()> {
-    let v = job_at(reply.tables, job);
+fn put(rt: &impl Print, number: u8, t: &Tables, job: u8, answer: i64, end: &str) -> io::Result<()> {
+    let v = job_at(*t, job);
     let fields = Fields::JobFields {
         killed: v.killed,
         terminated: v.terminated,
         amount: v.slack.amount,
         mode: v.slack.mode,
     };
-    let own = own_at(reply.tables, job);
+    let shown = Shown {
+        answer,
+        fields,
+        policy: own_at(*t, job),
+    };
     let mut out = [0u8; 4096];
-    let n = lines::put_line(&mut out, 0, u64::from(number), reply.answer, fields, own);
+    let n = lines::put_line(&mut out, 0, u64::from(number), shown);
     // The line's own end is left out.
     rt.write_all(&out[..n.saturating_sub(1)])?;
     println!(rt; "{end}")
 }
 
-// Whether two replies have one answer and leave the job one policy.
-fn agree(a: &Reply, b: &Reply, job: u8) -> bool {
-    a.answer == b.answer && own_at(a.tables, job).action == own_at(b.tables, job).action
-}
-
-// The first n entries by both forms; past fifteen there is one.
+// The first n entries by both forms; past fifteen there is one. They agree where they have one answer and leave the job
+// one policy.
 fn case(
     rt: &impl Print,
-    t: Tables,
+    mut t: Tables,
     job: u8,
     option: u8,
     n: u8,
     list: &[BasicPolicy; 20],
 ) -> io::Result<()> {
+    let mut u = t;
     let lent = &list[..usize::from(n).min(20)];
-    let reply = set_policy_basic(t, job, option, lent);
+    let answer = answer_of(set_policy_basic(&mut t, job, option, lent));
     let Some(fifteen) = list.first_chunk::<15>().filter(|_| n <= 15) else {
-        return put(rt, n, job, &reply, "");
+        return put(rt, n, &t, job, answer, "");
     };
-    let by_value = job_calls::set_policy(t, job, option, n, *fifteen);
-    let end = if agree(&reply, &by_value, job) {
+    let by_value = answer_of(job_calls::set_policy(&mut u, job, option, n, *fifteen));
+    let end = if answer == by_value && own_at(t, job).action == own_at(u, job).action {
         " agree"
     } else {
         " differ"
     };
-    put(rt, n, job, &reply, end)
+    put(rt, n, &t, job, answer, end)
 }
 
 // -- The cases -----------------------------------------------------------------------------
@@ -131,11 +129,14 @@ pub fn all(rt: &impl Print) -> io::Result<()> {
     let mut list = twenty(0);
     list[0] = pair(4, 1);
     list[1] = pair(6, 4);
-    let mut jobs = set_policy_basic(t, 0, 0, &list[..2]).tables;
-    jobs = job_calls::create_child(jobs, 0, 1).tables;
-    jobs = job_calls::create_child(jobs, 1, 2).tables;
+    let mut jobs = t;
+    prepared(set_policy_basic(&mut jobs, 0, 0, &list[..2]))?;
+    prepared(job_calls::create_child(&mut jobs, 0, 1))?;
+    prepared(job_calls::create_child(&mut jobs, 1, 2))?;
     inherited(rt, jobs)?;
     list[0] = pair(14, 3);
-    bad_fields(rt, set_policy_basic(jobs, 2, 0, &list[..1]).tables)?;
+    let mut later = jobs;
+    prepared(set_policy_basic(&mut later, 2, 0, &list[..1]))?;
+    bad_fields(rt, later)?;
     refused(rt, jobs)
 }

@@ -8,8 +8,8 @@ use crate::recorded::{Fault, Lines};
 // be more than there is room for.
 const PART: usize = 2999;
 
-// Replays a list, and says how many bytes of its lines agreed. The last line is a stop if the recorder finished or a cut
-// call is left, and only then.
+// Replays a list, and says how many bytes of its lines agreed. The last line is a stop if the recorder finished or a
+// cut call is left, and only then.
 pub fn replay(calls: &[u8], recorded: Lines<'_>) -> Result<usize, Fault>
     ensures { Replays recorded.entry result }
 {

@@ -1,13 +1,15 @@
-// reply: what a call answers: a number, the fields that follow it, and the tables.
+// reply: what a call answers: a number, the fields that follow it, and, for definitions, the tables.
 #![tactic(auto)]
 
 ghost use Rattle.std.specs.Prelude.{◌≡◌};
-ghost use Rattle.reply.specs.Reply.{reply, answered, showing, shown_answer, shown_fields};
+ghost use Rattle.error.specs.Numbers.{answer_of};
+ghost use Rattle.reply.specs.Reply.{information, reply, answered, Shows, shown_answer, shown_with, shown_by};
 
+use error::Refusal;
 use job_policy::JobPolicy;
 use records::tables::Tables;
 
-// The fields after the answer. The policy of a job's information stands beside, in the reply.
+// The fields after the answer. The policy of a job's information stands beside.
 #[derive(Clone, Copy)]
 pub enum Fields {
     NoFields,
@@ -33,6 +35,7 @@ pub enum Fields {
     },
 }
 
+// What definitions say that a call comes to. Its answer is the number, as the scope has it: code decides by a `Result`.
 #[derive(Clone, Copy)]
 pub struct Reply {
     pub answer: i64,
@@ -41,7 +44,26 @@ pub struct Reply {
     pub tables: Tables,
 }
 
-// What a call that changes no record shows.
+// What an accepted information call tells.
+#[derive(Clone, Copy)]
+pub struct Information {
+    pub fields: Fields,
+    pub policy: JobPolicy,
+}
+
+impl Information {
+    // Fields, and no policy.
+    pub fn new(fields: Fields) -> Information
+        ensures { result ≡ information fields }
+    {
+        Information {
+            fields,
+            policy: JobPolicy::none(),
+        }
+    }
+}
+
+// What the line of a call shows. Its answer is a number, by the format of a line.
 #[derive(Clone, Copy)]
 pub struct Shown {
     pub answer: i64,
@@ -50,65 +72,50 @@ pub struct Shown {
 }
 
 impl Shown {
-    // An answer with no field.
-    pub fn answered(answer: i64) -> Shown
-        ensures { result ≡ shown_answer answer }
-    {
-        Shown {
-            answer: answer,
-            fields: Fields::NoFields,
-            policy: JobPolicy::none(),
-        }
-    }
-
-    // An accepted call with its fields.
-    pub fn fields(fields: Fields) -> Shown
-        ensures { result ≡ shown_fields fields }
-    {
-        Shown {
-            answer: 0,
-            fields: fields,
-            policy: JobPolicy::none(),
-        }
-    }
-}
-
-impl Reply {
     // An answer with no field: each refusal, and each accepted call that shows nothing.
-    pub fn answered(tables: Tables, answer: i64) -> Reply
-        ensures { result ≡ answered tables answer }
+    #[tactic(auto, unfolding(crate::specs::Reply::answered, crate::specs::Reply::showing))]
+    pub fn answered(answer: i64) -> Shown
+        ensures is { result ≡ shown_answer answer }
+        ensures shows { Shows (λ t. answered t answer) result }
     {
-        Reply {
-            answer: answer,
+        Shown {
+            answer,
             fields: Fields::NoFields,
             policy: JobPolicy::none(),
-            tables: tables,
         }
     }
 
     // An answer with its fields.
-    pub fn with_fields(tables: Tables, answer: i64, fields: Fields) -> Reply
-        ensures { result ≡ reply tables answer fields }
+    #[tactic(auto, unfolding(crate::specs::Reply::reply, crate::specs::Reply::showing))]
+    pub fn with_fields(answer: i64, fields: Fields) -> Shown
+        ensures is { result ≡ shown_with answer fields }
+        ensures shows { Shows (λ t. reply t answer fields) result }
     {
-        Reply {
-            answer: answer,
-            fields: fields,
+        Shown {
+            answer,
+            fields,
             policy: JobPolicy::none(),
-            tables: tables,
         }
     }
 
-    // The tables as they were, and what is shown.
-    pub fn showing(tables: Tables, s: Shown) -> Reply
-        ensures { result ≡ showing tables s }
+    // What a call shows that tells nothing, by its outcome.
+    pub fn settled(outcome: Result<(), Refusal>) -> Shown
+        ensures { result ≡ shown_answer (answer_of outcome) }
     {
-        let fields = s.fields;
-        let policy = s.policy;
-        Reply {
-            answer: s.answer,
-            fields: fields,
-            policy: policy,
-            tables: tables,
+        Shown::answered(error::answer_of(outcome))
+    }
+
+    // What an information call shows, by its outcome.
+    pub fn informed(outcome: Result<Information, Refusal>) -> Shown
+        ensures { result ≡ shown_by outcome }
+    {
+        match outcome {
+            Ok(told) => Shown {
+                answer: 0,
+                fields: told.fields,
+                policy: told.policy,
+            },
+            Err(refusal) => Shown::answered(refusal.number()),
         }
     }
 }

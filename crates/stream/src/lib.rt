@@ -6,6 +6,7 @@ ghost use Rattle.std.specs.Prelude.{true, ◌≡◌};
 ghost use Rattle.stream.specs.Stream.{Stream};
 
 // No cut of the input into parts changes what is written, and that is a line for each answer of the model.
+#[tactic(auto, using(crate::proofs::Whole::stream))]
 pub fn claims() -> bool
     ensures { (result ≡ true) × Stream }
 {

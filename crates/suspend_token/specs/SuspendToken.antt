@@ -1,40 +1,31 @@
 -- Suspending, resuming and tokens, over the records that they name: what a call leaves, stored where the records were
 -- and done to each thread of the process where asked, is what the model says of the call, whatever else the tables
 -- hold.
-use Rattle.std.specs.Prelude.{Option, Result, Ok, Err}
+use Rattle.std.specs.Prelude.{Option, Result, Ok, Err, unwrap_or}
+use Rattle.std.specs.Prelude.{ℕ, ◌%◌, ◌≡◌, Bool, true, false, length, map, ℤ, pos}
 use Rattle.error.specs.declared.Refusal.{Refusal}
 use Rattle.error.specs.Numbers.{number_of}
-use Rattle.std.specs.Prelude.{ℕ, ◌%◌, ◌≡◌, Bool, true, false, length, ℤ, pos}
-use Rattle.laws.specs.Choice.{◌≤?◌, ◌=?◌, ◌and◌, if◌then◌otherwise◌}
-use Rattle.laws.specs.Lists.{any}
+use Rattle.laws.specs.Choice.{◌≤?◌, ◌<?◌, ◌=?◌, if◌then◌otherwise◌}
+use Rattle.laws.specs.Guarded.{◌>>◌, ◌>>=◌, refuse◌when◌, deny◌when◌}
 use Rattle.record_job.specs.declared.Job.{Job}
 use Rattle.record_job.specs.Job.{found_job_in}
 use Rattle.record_process.specs.declared.Process.{Process}
 use Rattle.record_process.specs.Process.{found_process_in}
 use Rattle.record_thread.specs.declared.Thread.{Thread}
-use Rattle.record_thread.specs.Thread.{FULL, suspend, resume, found_thread_in}
+use Rattle.record_thread.specs.Thread.{found_thread_in}
+use Rattle.record_token.specs.SuspendToken.{number}
+use Rattle.record_token.specs.declared.Kind.TheVariants.{Job as OF_JOB}
 use Rattle.record_token.specs.declared.SuspendToken.{SuspendToken}
+use Rattle.record_token.specs.declared.Task.{Task}
 use Rattle.thread_lists.specs.declared.Each.{Each}
-use Rattle.thread_lists.specs.Each.{SUSPEND, RESUME, has_count, each_unless}
+use Rattle.thread_lists.specs.Each.{SUSPEND, RESUME, one_of, bars, any_bars, changed_in}
 use Rattle.records.specs.declared.tables.Tables.{Tables}
 use Rattle.records.specs.Tables.{job_at, process_at, thread_at, token_at, put_thread, put_token, with_threads}
+use Rattle.records.specs.Owners.{as_task, tasks_of}
 use Rattle.reply.specs.declared.Reply.{Reply}
 use Rattle.reply.specs.Reply.{answered}
-use Rattle.records.specs.Owners.{as_task}
-use Rattle.model.specs.SuspendToken.{PROCESS}
-use Rattle.suspend_token.specs.declared.Task.{Task}
-use Rattle.suspend_token.specs.declared.Token.{Token}
-
-abbrev pub task : Thread → ℤ → Bool → Task
-task v answer each = record { answer = answer; each = each; thread = v }
-
--- by the thread after the call, and the outcome: `Ok true` where each thread of a process is to be changed
-unfoldable pub task_by : Thread → Result Bool Refusal → Task
-task_by v (Ok each) = task v (pos 0) each
-task_by v (Err e) = task v (number_of e) false
-
-abbrev pub token : SuspendToken → Task → Token
-token k m = record { task = m; token = k }
+use Rattle.model.specs.Replies.{call, accept, task}
+use Rattle.model.specs.SuspendToken.{PROCESS, change_task}
 
 -- a made task
 unfoldable pub found_task_in : ℕ → Thread → Process → Job → Option Unit
@@ -43,66 +34,67 @@ found_task_in kind v q j =
     if kind =? 1 then as_task (found_process_in q) otherwise
     as_task (found_thread_in v)
 
--- does a thread concerned have this count? of a process's it is told
-unfoldable pub some_in : ℕ → Thread → Bool → ℕ → Bool
-some_in kind v barred count = if kind =? PROCESS then barred otherwise v.suspends =? count
+-- does a thread concerned bar the change? of a process's it is told
+unfoldable pub bars_in : Each → ℕ → Thread → Bool → Bool
+bars_in k kind v barred = if kind =? PROCESS then barred otherwise bars k v
 
--- a thread by a name past the table has none
-unfoldable pub none_in : SuspendToken → Thread → Bool → Bool
-none_in k v barred =
-    if k.kind =? PROCESS then barred otherwise
-    if 128 ≤? k.name then true otherwise
+-- a thread by a name past the table has no suspension
+unfoldable pub none_in : (kind n : ℕ) → Thread → Bool → Bool
+none_in kind n v barred =
+    if kind =? PROCESS then barred otherwise
+    if 128 ≤? n then true otherwise
     v.suspends =? 0
 
-unfoldable pub suspended_in : ℕ → Thread → Task
-suspended_in kind v = if kind =? PROCESS then task v (pos 0) true otherwise task (suspend v) (pos 0) false
+-- ---- 1e and 1f at once, as the model says each ---------------------------------------------------------
 
-unfoldable pub resumed_in : ℕ → Thread → Task
-resumed_in kind v = if kind =? PROCESS then task v (pos 0) true otherwise task (resume v) (pos 0) false
+unfoldable pub some_bars : Each → Tables → (kind n : ℕ) → Bool
+some_bars k t kind n =
+    if kind =? PROCESS then any_bars (bars k) n t.threads otherwise bars k (thread_at t n)
 
--- ---- What it means for the tables; n is the task's name ------------------------------------------------
+-- where a thread concerned bars it, it is refused with this number
+unfoldable pub change_call : Each → ℤ → Tables → (kind n : ℕ) → Reply
+change_call k bar t kind n = call t do
+  refuse 104 when 2 <? kind
+  refuse 101 when tasks_of kind ≤? n
+  _ ← task t kind n
+  refuse 106 when kind =? 0
+  deny bar when some_bars k t kind n
+  accept (change_task (one_of k) t kind n)
 
--- where asked, k is done to each thread that process n lists, up to one that bars it; else the thread is stored where
--- it was
-unfoldable pub changed : (k : Each) → Tables → (kind n : ℕ) → Task → Tables
-changed k t kind n m =
-    if (kind =? PROCESS) and m.each then with_threads t (each_unless k n t.threads).threads
-    otherwise put_thread t (n % 128) m.thread
+-- ---- What an outcome means for the tables; n is the task's name ----------------------------------------
 
-unfoldable pub task_in : (k : Each) → Tables → (kind n : ℕ) → Task → Reply
-task_in k t kind n m = answered (changed k t kind n m) m.answer
+-- the records are stored, and where asked k is done to each thread that process n lists
+unfoldable pub settled : Each → Tables → ℕ → Result Bool Refusal → Reply
+settled k t n (Ok true) = answered (with_threads t (map (changed_in (one_of k) n) t.threads)) (pos 0)
+settled k t n (Ok false) = answered t (pos 0)
+settled k t n (Err e) = answered t (number_of e)
 
-unfoldable pub token_in : (k : Each) → Tables → (token kind n : ℕ) → Token → Reply
-token_in k t token kind n m =
-    answered (put_token (changed k t kind n m.task) (token % 64) m.token) m.task.answer
-
--- the records that task n of any kind may stand for, and whether a thread that process n lists has this count
-abbrev pub Concerned : Tables → (kind n count : ℕ) → Thread → Process → Job → Bool → Type 0
-Concerned t kind n count v q j barred =
-    (thread_at t (n % 128) ≡ v) × (process_at t (n % 64) ≡ q) × (job_at t (n % 32) ≡ j) ×
-    (kind ≡ PROCESS → any (has_count n count) t.threads ≡ barred)
-
--- the call f on task n, whose thread is v, leaves it as w and comes to r
-abbrev pub Suspends : (Tables → Reply) → (kind n : ℕ) → (v w : Thread) → Process → Job → Bool → Result Bool Refusal →
-    Type 0
-Suspends f kind n v w q j barred r =
-    (t : Tables) → Concerned t kind n FULL v q j barred → task_in SUSPEND t kind n (task_by w r) ≡ f t
-
-abbrev pub Resumes : (Tables → Reply) → (kind n : ℕ) → (v w : Thread) → Process → Job → Bool → Result Bool Refusal →
-    Type 0
-Resumes f kind n v w q j barred r =
-    (t : Tables) → Concerned t kind n 0 v q j barred → task_in RESUME t kind n (task_by w r) ≡ f t
+-- the call f does k on task n, leaves its thread v as w and comes to r: in any tables where q and j are the process and
+-- the job of that name, and `barred` says whether a thread that process n lists bars k
+abbrev pub Changes : Each → (f : Tables → Reply) → (kind n : ℕ) → (v w : Thread) → Process → Job → Bool →
+    Result Bool Refusal → Type 0
+Changes k f kind n v w q j barred r =
+    (t : Tables) → thread_at t (n % 128) ≡ v → process_at t (n % 64) ≡ q → job_at t (n % 32) ≡ j →
+    (kind ≡ PROCESS → any_bars (bars k) n t.threads ≡ barred) → settled k (put_thread t (n % 128) w) n r ≡ f t
 
 -- the same, and leaves the token k as l
-abbrev pub Creates : (Tables → Reply) → (new kind n : ℕ) → (k l : SuspendToken) → (v w : Thread) → Process → Job →
-    Bool → Result Bool Refusal → Type 0
+abbrev pub Creates : (f : Tables → Reply) → (new kind n : ℕ) → (k l : SuspendToken) → (v w : Thread) → Process →
+    Job → Bool → Result Bool Refusal → Type 0
 Creates f new kind n k l v w q j barred r =
-    (t : Tables) → token_at t (new % 64) ≡ k → Concerned t kind n FULL v q j barred →
-    token_in SUSPEND t new kind n (token l (task_by w r)) ≡ f t
+    (t : Tables) → token_at t (new % 64) ≡ k →
+    thread_at t (n % 128) ≡ v → process_at t (n % 64) ≡ q → job_at t (n % 32) ≡ j →
+    (kind ≡ PROCESS → any_bars (bars SUSPEND) n t.threads ≡ barred) →
+    settled SUSPEND (put_token (put_thread t (n % 128) w) (new % 64) l) n r ≡ f t
 
--- a name past the table of threads has no count
-abbrev pub Drops : (Tables → Reply) → ℕ → (k l : SuspendToken) → (v w : Thread) → Bool → Result Bool Refusal → Type 0
+-- the task that a token holds; a dropped one's is looked at by no call
+abbrev pub held_task : SuspendToken → Task
+held_task k = unwrap_or k.task (record { kind = OF_JOB; name = 0 })
+
+-- the call f drops token k of this name and leaves it as l, and the thread v of its task a as w; a name past the table
+-- of threads has no count
+abbrev pub Drops : (f : Tables → Reply) → ℕ → (k l : SuspendToken) → (v w : Thread) → Bool → Result Bool Refusal →
+    Type 0
 Drops f name k l v w barred r =
-    (t : Tables) → length t.threads ≡ 128 → token_at t (name % 64) ≡ k → thread_at t (k.name % 128) ≡ v →
-    (k.kind ≡ PROCESS → any (has_count k.name 0) t.threads ≡ barred) →
-    token_in RESUME t name k.kind k.name (token l (task_by w r)) ≡ f t
+    (t : Tables) (a : Task) → length t.threads ≡ 128 → token_at t (name % 64) ≡ k → a ≡ held_task k →
+    thread_at t (a.name % 128) ≡ v → (number a.kind ≡ PROCESS → any_bars (bars RESUME) a.name t.threads ≡ barred) →
+    settled RESUME (put_token (put_thread t (a.name % 128) w) (name % 64) l) a.name r ≡ f t

@@ -1,6 +1,7 @@
 // thread: the calls on one thread, over its record alone, and its making. Follows thread.rs. Each call stands here
-// once: its refusals in document 01's order, then its effect. specs/Move.antt says what the record
-// as it is left, and the outcome, mean for the tables.
+// once: its refusals in document 01's order, then its effect. A name goes beside its record and not with it: past the
+// table it is refused, and the record is not its own. specs/Move.antt says what the record as it is left, and the
+// outcome, mean for the tables.
 #![tactic(auto)]
 
 ghost use Rattle.std.specs.Prelude.{◌≡◌};
@@ -9,13 +10,13 @@ ghost use Rattle.model.specs.ThreadCalls.{thread_information, waiting_level, beg
 ghost use Rattle.model.specs.ThreadCalls.{is_wait_state, wait_answer, is_pending};
 ghost use Rattle.model.specs.ThreadCalls.{create_thread};
 ghost use Rattle.error.specs.Numbers.{answer_of};
-ghost use Rattle.thread.specs.Move.{Shows, Settles, Ends};
+ghost use Rattle.thread.specs.Move.{free_in, Shows, Settles, Ends};
 ghost use Rattle.thread.specs.Pair.{SettlesBoth};
 
 use error::{Refusal, ZxError};
 use record_process::Process;
 use record_thread::{Thread, ThreadState, Waiting};
-use reply::{Fields, Shown};
+use reply::{Fields, Information};
 
 // -- Making ----------------------------------------------------------------------------------
 
@@ -78,10 +79,9 @@ pub fn kill(thread: u8, v: &mut Thread) -> Result<(), Refusal>
     Ok(())
 }
 
-// 0b: `CurrentThread::exit`.
-#[tactic(auto, using(crate::proofs::Moving::settling), unfolding(model::specs::ThreadCalls::exit_thread))]
-pub fn exit(thread: u8, v: &mut Thread) -> Result<(), Refusal>
-    ensures { Settles (λ t. exit_thread t thread) thread v.old v.new result }
+// The thread that a call of its own is on: it runs, and is in no wait.
+fn free(thread: u8, v: Thread) -> Result<Thread, Refusal>
+    ensures { result ≡ free_in thread v }
 {
     if 128 <= thread {
         return Err(Refusal::PastTable);
@@ -92,24 +92,23 @@ pub fn exit(thread: u8, v: &mut Thread) -> Result<(), Refusal>
     if !w.is_free() {
         return Err(Refusal::OutOfTurn);
     }
+    Ok(w)
+}
+
+// 0b: `CurrentThread::exit`.
+pub fn exit(thread: u8, v: &mut Thread) -> Result<(), Refusal>
+    ensures { Settles (λ t. exit_thread t thread) thread v.old v.new result }
+{
+    let w = free(thread, *v)?;
     *v = w.exit();
     Ok(())
 }
 
 // 0c: `CurrentThread` dropped. Where it is accepted the thread is finished, and its process is left with one less.
-#[tactic(auto, using(crate::proofs::Moving::settling), unfolding(model::specs::ThreadCalls::finish_thread_call))]
 pub fn finish(thread: u8, v: &mut Thread) -> Result<(), Refusal>
     ensures { Ends (λ t. finish_thread_call t thread) thread v.old v.new result }
 {
-    if 128 <= thread {
-        return Err(Refusal::PastTable);
-    }
-    let Some(w) = v.found() else {
-        return Err(Refusal::NotMade);
-    };
-    if !w.is_free() {
-        return Err(Refusal::OutOfTurn);
-    }
+    let w = free(thread, *v)?;
     *v = w.finish();
     Ok(())
 }
@@ -136,15 +135,7 @@ pub fn begin_wait(thread: u8, v: &mut Thread, state: u16) -> Result<(), Refusal>
     if !is_wait_state(state) {
         return Err(Refusal::BadField);
     }
-    if 128 <= thread {
-        return Err(Refusal::PastTable);
-    }
-    let Some(w) = v.found() else {
-        return Err(Refusal::NotMade);
-    };
-    if !w.is_free() {
-        return Err(Refusal::OutOfTurn);
-    }
+    let w = free(thread, *v)?;
     if w.state == ThreadState::DYING {
         return Err(Refusal::Zx(ZxError::Stop));
     }
@@ -219,19 +210,20 @@ fn waiting_level(waiting: Waiting) -> u8
 }
 
 // 1d: thread information.
-pub fn get_thread_info(thread: u8, v: Thread) -> Shown
+#[tactic(auto, using(crate::proofs::Moving::settling), unfolding(model::specs::ThreadCalls::thread_information, model::specs::ThreadCalls::thread_info))]
+pub fn get_thread_info(thread: u8, v: Thread) -> Result<Information, Refusal>
     ensures { Shows (λ t. thread_information t thread) thread v result }
 {
     if 128 <= thread {
-        return Shown::answered(Refusal::PAST_TABLE);
+        return Err(Refusal::PastTable);
     }
     let Some(w) = v.found() else {
-        return Shown::answered(Refusal::NOT_MADE);
+        return Err(Refusal::NotMade);
     };
     let waiting = w.waiting;
-    Shown::fields(Fields::ThreadFields {
+    Ok(Information::new(Fields::ThreadFields {
         state: w.state(),
         level: waiting_level(waiting),
         suspends: w.suspends,
-    })
+    }))
 }

@@ -1,1 +1,1 @@
-pub mod Unless
+pub mod Turn

@@ -1,9 +1,10 @@
-// thread_lists: a change of each thread that a process lists, over the table of threads by itself.
+// thread_lists: a change of each thread that a process lists, and whether one bars it, over the table of threads by
+// itself.
 #![tactic(auto)]
 
 ghost use Rattle.std.specs.Prelude.{ℕ, Bool, map, ◌≡◌};
 ghost use Rattle.record_thread.specs.declared.Thread.{Thread};
-ghost use Rattle.thread_lists.specs.Each.{one_of, bars, changed, changed_in, changed_unless};
+ghost use Rattle.thread_lists.specs.Each.{one_of, bars, any_bars, changed_in};
 
 use record_thread::Thread;
 
@@ -21,7 +22,7 @@ pub trait Change: Copy {
         ensures { result ≡ bars self v };
 }
 
-// The changes that calls make.
+// The changes that calls make. One enum, and no type for each: what suspends and what resumes is one function over it.
 #[derive(Clone, Copy)]
 pub enum Each {
     Suspend,
@@ -55,46 +56,24 @@ impl Change for Each {
 }
 
 // Every thread that process p lists is changed.
-pub fn each_thread<C: Change>(mut threads: [Thread; 128], p: u8, change: C) -> [Thread; 128]
-    ensures { result ≡ map (changed_in (C.after change) p) threads }
+pub fn each_thread<C: Change>(threads: &mut [Thread; 128], p: u8, change: C)
+    ensures { threads.new ≡ map (changed_in (C.after change) p) threads.old }
 {
-    for each in &mut threads {
+    for each in threads {
         if each.thread_of(p) {
             *each = change.after(*each);
         }
     }
-    threads
 }
 
-// The threads after a change of each that a process lists, as far as it came. It is no Result, since the threads are
-// read whether one barred it or not.
-#[derive(Drop)]
-pub struct Changed {
-    // One bars the change: those from it on are as they were.
-    pub barred: bool,
-    pub threads: [Thread; 128],
-}
-
-impl Changed {
-    // A literal in the loop's function is filled with zeros at each call, 2,561 bytes, before its fields are stored.
-    fn new(barred: bool, threads: [Thread; 128]) -> Changed
-        ensures { result ≡ changed barred threads }
-    {
-        Changed { barred, threads }
-    }
-}
-
-// Every thread that process p lists is changed, up to one that bars it.
-pub fn each_unless<C: Change>(mut threads: [Thread; 128], p: u8, change: C) -> Changed
-    ensures { result ≡ changed_unless (C.after change) (C.bars change) p threads }
+// Whether a thread that process p lists bars the change.
+pub fn one_bars<C: Change>(threads: &[Thread; 128], p: u8, change: C) -> bool
+    ensures { result ≡ any_bars (C.bars change) p threads.now }
 {
-    for v in &mut threads {
-        if v.thread_of(p) {
-            if change.bars(*v) {
-                return Changed::new(true, threads);
-            }
-            *v = change.after(*v);
+    for v in threads {
+        if v.thread_of(p) && change.bars(*v) {
+            return true;
         }
     }
-    Changed::new(false, threads)
+    false
 }

@@ -1,120 +1,103 @@
-// token_calls: suspending and resuming a task, and tokens, on the tables by value: 0d, 0e, 1e and 1f. Each reads the
-// records that it names, asks crate suspend_token, and stores what that leaves. What each comes to is in
-// model/specs/ThreadCalls.antt.
+// token_calls: suspending and resuming a task, and tokens, on the tables: 0d, 0e, 1e and 1f. Each lends the records
+// that it names, in their places, to crate suspend_token, and changes each thread of a process where that says so.
+// A kind and a name go apart, as there. What each comes to is in model/specs/ThreadCalls.antt.
 #![tactic(auto)]
 
 ghost use Rattle.std.specs.Prelude.{◌≡◌};
+ghost use Rattle.error.specs.Numbers.{answer_of};
+ghost use Rattle.thread_lists.specs.Each.{bars, any_bars};
+ghost use Rattle.reply.specs.Reply.{answered};
+ghost use Rattle.model.specs.SuspendToken.{PROCESS};
 ghost use Rattle.model.specs.ThreadCalls.{create_token_call, drop_token_call, suspend_call, resume_call};
-ghost use Rattle.token_calls.specs.TokenCalls.{of_each, changed_to, task_to, token_to};
+ghost use Rattle.suspend_token.specs.SuspendToken.{settled};
 
-use record_thread::Thread;
-use record_token::Kind;
-use records::reading::{job_at, process_at, thread_at, token_at};
+use error::Refusal;
+use record_token::{Kind, Task};
 use records::tables::Tables;
-use reply::Reply;
-use suspend_token::{Task, Token};
-use thread_lists::{Each, each_unless};
+use thread_lists::{Each, each_thread, one_bars};
 
-// -- What a call left, stored where the records were -------------------------------------------
+// -- The threads that a process lists ----------------------------------------------------------
 
-// Whether each thread of a process is to be changed.
-#[tactic(auto, using(laws::proofs::Flow::branches), unfolding(crate::specs::TokenCalls::of_each))]
-fn of_each(kind: u8, m: Task) -> bool
-    ensures { result ≡ of_each kind m }
+// Whether one bars the change; of another task none is asked.
+fn barred(t: &Tables, kind: u8, name: u8, change: Each) -> bool
+    ensures { kind ≡ PROCESS → any_bars (bars change) name t.now.threads ≡ result }
 {
-    kind == Kind::PROCESS && m.each
+    kind == Kind::Process.number() && one_bars(&t.threads, name, change)
 }
 
-// Of a process: these threads, where each is to be changed. Else the one thread.
-#[tactic(auto, using(laws::proofs::Flow::branches), unfolding(crate::specs::TokenCalls::changed_to))]
-fn changed_to(mut t: Tables, kind: u8, name: u8, threads: [Thread; 128], m: Task) -> Tables
-    ensures { result ≡ changed_to t kind name threads m }
+// Each is changed, where the outcome says so.
+#[tactic(auto, unfolding(suspend_token::specs::SuspendToken::settled))]
+fn settle(
+    t: &mut Tables,
+    name: u8,
+    change: Each,
+    outcome: Result<bool, Refusal>,
+) -> Result<(), Refusal>
+    ensures { answered t.new (answer_of result) ≡ settled change t.old name outcome }
 {
-    if of_each(kind, m) {
-        t.threads = threads;
-        return t;
+    if outcome? {
+        each_thread(&mut t.threads, name, change);
     }
-    t.with_thread(name % 128, m.thread)
-}
-
-#[tactic(auto, unfolding(crate::specs::TokenCalls::task_to))]
-fn task_to(t: Tables, kind: u8, name: u8, threads: [Thread; 128], m: Task) -> Reply
-    ensures { result ≡ task_to t kind name threads m }
-{
-    Reply::answered(changed_to(t, kind, name, threads, m), m.answer)
-}
-
-#[tactic(auto, unfolding(crate::specs::TokenCalls::token_to))]
-fn token_to(t: Tables, token: u8, kind: u8, name: u8, threads: [Thread; 128], m: Token) -> Reply
-    ensures { result ≡ token_to t token kind name threads m }
-{
-    let u = changed_to(t, kind, name, threads, m.task);
-    Reply::answered(u.with_token(token % 64, m.token), m.task.answer)
+    Ok(())
 }
 
 // -- Suspending and resuming -------------------------------------------------------------------
 
 // 1e: `Task::suspend`.
-pub fn suspend(t: Tables, kind: u8, name: u8) -> Reply
-    ensures { result ≡ suspend_call t kind name }
+#[tactic(auto, using(crate::proofs::Places::places), unfolding(records::specs::Tables::put_thread))]
+pub fn suspend(t: &mut Tables, kind: u8, name: u8) -> Result<(), Refusal>
+    ensures { answered t.new (answer_of result) ≡ suspend_call t.old kind name }
 {
-    let mut v = thread_at(t, name % 128);
-    let q = process_at(t, name % 64);
-    let j = job_at(t, name % 32);
-    let done = each_unless(t.threads, name, Each::Suspend);
-    let outcome = suspend_token::suspend(kind, name, &mut v, q, j, done.barred);
-    task_to(t, kind, name, done.threads, Task::by(v, outcome))
+    let bar = barred(t, kind, name, Each::Suspend);
+    let q = t.processes[(name % 64) as usize];
+    let j = t.jobs[(name % 32) as usize];
+    let v = &mut t.threads[(name % 128) as usize];
+    let outcome = suspend_token::suspend(kind, name, v, q, j, bar);
+    settle(t, name, Each::Suspend, outcome)
 }
 
-// 1f: `Task::resume`.
-pub fn resume(t: Tables, kind: u8, name: u8) -> Reply
-    ensures { result ≡ resume_call t kind name }
+// 1f: `Task::resume`. Apart from `suspend`: one body for both would be handed the change, its refusal and its call, for
+// six lines.
+#[tactic(auto, using(crate::proofs::Places::places), unfolding(records::specs::Tables::put_thread))]
+pub fn resume(t: &mut Tables, kind: u8, name: u8) -> Result<(), Refusal>
+    ensures { answered t.new (answer_of result) ≡ resume_call t.old kind name }
 {
-    let mut v = thread_at(t, name % 128);
-    let q = process_at(t, name % 64);
-    let j = job_at(t, name % 32);
-    let done = each_unless(t.threads, name, Each::Resume);
-    let outcome = suspend_token::resume(kind, name, &mut v, q, j, done.barred);
-    task_to(t, kind, name, done.threads, Task::by(v, outcome))
+    let bar = barred(t, kind, name, Each::Resume);
+    let q = t.processes[(name % 64) as usize];
+    let j = t.jobs[(name % 32) as usize];
+    let v = &mut t.threads[(name % 128) as usize];
+    let outcome = suspend_token::resume(kind, name, v, q, j, bar);
+    settle(t, name, Each::Resume, outcome)
 }
 
 // -- Tokens --------------------------------------------------------------------------------------
 
 // 0d: `SuspendToken::create`.
-pub fn create(t: Tables, new: u8, kind: u8, name: u8) -> Reply
-    ensures { result ≡ create_token_call t new kind name }
+#[tactic(auto, using(crate::proofs::Places::places), unfolding(records::specs::Tables::put_thread, records::specs::Tables::put_token))]
+pub fn create(t: &mut Tables, new: u8, kind: u8, name: u8) -> Result<(), Refusal>
+    ensures { answered t.new (answer_of result) ≡ create_token_call t.old new kind name }
 {
-    let mut k = token_at(t, new % 64);
-    let mut v = thread_at(t, name % 128);
-    let q = process_at(t, name % 64);
-    let j = job_at(t, name % 32);
-    let done = each_unless(t.threads, name, Each::Suspend);
-    let outcome = suspend_token::create(new, kind, name, &mut k, &mut v, q, j, done.barred);
-    token_to(
-        t,
-        new,
-        kind,
-        name,
-        done.threads,
-        Token::new(k, Task::by(v, outcome)),
-    )
+    let bar = barred(t, kind, name, Each::Suspend);
+    let q = t.processes[(name % 64) as usize];
+    let j = t.jobs[(name % 32) as usize];
+    let k = &mut t.tokens[(new % 64) as usize];
+    let v = &mut t.threads[(name % 128) as usize];
+    let outcome = suspend_token::create(new, kind, name, k, v, q, j, bar);
+    settle(t, name, Each::Suspend, outcome)
 }
 
-// 0e: a token dropped.
-pub fn drop(t: Tables, token: u8) -> Reply
-    ensures { result ≡ drop_token_call t token }
+// 0e: a token dropped. One that holds no task is refused, whatever is lent for it.
+#[tactic(auto, using(crate::proofs::Places::places), unfolding(records::specs::Tables::put_thread, records::specs::Tables::put_token))]
+pub fn drop(t: &mut Tables, token: u8) -> Result<(), Refusal>
+    ensures { answered t.new (answer_of result) ≡ drop_token_call t.old token }
 {
-    let k = token_at(t, token % 64);
-    let mut left = k;
-    let mut v = thread_at(t, k.name % 128);
-    let done = each_unless(t.threads, k.name, Each::Resume);
-    let outcome = suspend_token::drop(token, &mut left, &mut v, done.barred);
-    token_to(
-        t,
-        token,
-        k.kind,
-        k.name,
-        done.threads,
-        Token::new(left, Task::by(v, outcome)),
-    )
+    let held = t.tokens[(token % 64) as usize].task.unwrap_or(Task {
+        kind: Kind::Job,
+        name: 0,
+    });
+    let bar = barred(t, held.kind.number(), held.name, Each::Resume);
+    let k = &mut t.tokens[(token % 64) as usize];
+    let v = &mut t.threads[(held.name % 128) as usize];
+    let outcome = suspend_token::drop(token, k, v, bar);
+    settle(t, held.name, Each::Resume, outcome)
 }

@@ -6,4 +6,4 @@ use Rattle.cascade.proofs.stop_threads.Goals as goal
 
 pub returns : goal.returns
 unfolding stop_threads stop_in one_of changed_in
-returns c = ap (with_threads c.args.t) c.each_thread-t.ensures
+returns c = ap (with_threads c.args.t) c.each_thread.ensures

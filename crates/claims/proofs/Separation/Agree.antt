@@ -12,6 +12,8 @@ use Rattle.record_job.specs.declared.Job.{Job}
 use Rattle.record_process.specs.declared.Process.{Process}
 use Rattle.record_thread.specs.declared.Thread.{Thread}
 use Rattle.record_token.specs.declared.SuspendToken.{SuspendToken}
+use Rattle.record_token.specs.declared.Task.{Task}
+use Rattle.record_token.specs.SuspendToken.{number}
 use Rattle.records.specs.declared.tables.Tables.{Tables}
 use Rattle.records.specs.Tables.{job_at, own_at, inherited_at, process_at, fixed_at, thread_at, token_at}
 use Rattle.claims.specs.Separation.{Trip, task_of, Apart}
@@ -42,8 +44,8 @@ pub record ThreadFits (x y : Trip) (n : ℕ) (v : Thread) : Type 0 where
 
 -- a token is of a trip if its task is
 pub record TokenFits (x y : Trip) (k : ℕ) (v : SuspendToken) : Type 0 where
-  pub of_x : v.held ≡ true → x.tokens k ≡ task_of x v.kind v.name
-  pub of_y : v.held ≡ true → y.tokens k ≡ task_of y v.kind v.name
+  pub of_x : (a : Task) → v.task ≡ Some a → x.tokens k ≡ task_of x (number a.kind) a.name
+  pub of_y : (a : Task) → v.task ≡ Some a → y.tokens k ≡ task_of y (number a.kind) a.name
 
 -- ---- Two records of one name -----------------------------------------------------------------
 

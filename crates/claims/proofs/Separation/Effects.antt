@@ -1,11 +1,11 @@
 -- The effects of calls that are more than one store of a found record: new records, bindings,
 -- policies, and a thread that finishes. Assumes nothing.
 use Rattle.record_process.specs.declared.Critical.{Critical}
-use Rattle.std.proofs.lemmas.Option.{same_Some}
+use Rattle.std.proofs.lemmas.Option.{none-some, same_Some}
 use Prim.Native.Nat.{ℕ, zero, suc}
 use mathlib.Core.Path.{◌≡◌, refl, sym, ap, ap₂, ◌∙◌, subst}
 use mathlib.Core.Bool.{Bool, true, false}
-use Rattle.laws.specs.Choice.{◌=?◌, if◌then◌otherwise◌}
+use Rattle.laws.specs.Choice.{◌<?◌, ◌=?◌, if◌then◌otherwise◌}
 use Rattle.laws.proofs.Cases.{no_both, if_on, if_two, ite_two}
 use Rattle.job_policy.specs.Policy.{merge}
 use Rattle.record_job.specs.Job.{new_job}
@@ -13,8 +13,9 @@ use Rattle.record_process.specs.declared.Process.{Process}
 use Rattle.record_process.specs.Process.{new_process, bind_to}
 use Rattle.record_thread.specs.declared.Thread.{Thread}
 use Rattle.record_thread.specs.Thread.{new_thread, finish}
+use Rattle.record_token.proofs.Numbers.{numbered}
 use Rattle.record_token.specs.declared.SuspendToken.{SuspendToken}
-use Rattle.record_token.specs.SuspendToken.{new_token, drop}
+use Rattle.record_token.specs.SuspendToken.{kind_of, new_token, drop}
 use Rattle.records.specs.declared.tables.Tables.{Tables}
 use Rattle.records.specs.Tables.{job_at, process_at, thread_at, put_thread}
 use Rattle.model.specs.Job.{lists_thread, is_above, end_process, finish_thread}
@@ -68,13 +69,17 @@ module _ {x y : Trip} where
         listed_made = g.listed_made;
       }
 
-  pub new_token_lem : (new kind n : ℕ) → x.tokens new ≡ task_of x kind n →
+  pub new_token_lem : (new kind n : ℕ) → 2 <? kind ≡ false → x.tokens new ≡ task_of x kind n →
       y.tokens new ≡ task_of y kind n →
-      TokenFits x y new (new_token kind n)
-  new_token_lem new kind n f g = record { of_x = λ e. f; of_y = λ e. g }
+      TokenFits x y new (new_token (kind_of kind) n)
+  new_token_lem new kind n l f g =
+      record {
+        of_x = λ a e. rw (← same_Some _ _ e, numbered kind l) f;
+        of_y = λ a e. rw (← same_Some _ _ e, numbered kind l) g;
+      }
 
   pub no_token_lem : (k : ℕ) (v : SuspendToken) → TokenFits x y k (drop v)
-  no_token_lem k v = record { of_x = λ e. no_both e refl; of_y = λ e. no_both e refl }
+  no_token_lem k v = record { of_x = λ a e. absurd (none-some _ e); of_y = λ a e. absurd (none-some _ e) }
 
 -- ---- What two runs answer alike --------------------------------------------------------------
 

@@ -48,9 +48,7 @@ module _ {x y : Trip} {s t : Tables} (r : Agree x y s t) where
 
   pub token_same : (k : ℕ) → x.tokens k ≡ false → token s k ≡ token t k
   unfolding found_token
-  token_same k h =
-      ap (λ (v : SuspendToken). present (if v.held then Some v otherwise None))
-      ((r.tokens k).same h)
+  token_same k h = ap (λ (v : SuspendToken). present v.task) ((r.tokens k).same h)
 
   -- ---- A record that was found ----------------------------------------------------------------
 

@@ -1,5 +1,6 @@
 -- The rows of `SeparationRows`, by computation. Assumes nothing.
-use Rattle.std.proofs.Common.{Option}
+use Rattle.std.proofs.Common.{Option, None}
+use Rattle.std.proofs.lemmas.Option.{none-some}
 use Prim.Native.Nat.{ℕ, zero, suc}
 use mathlib.Core.Path.{◌≡◌, refl, sym, ap, ◌∙◌, subst}
 use mathlib.Core.Bool.{Bool, true, false}
@@ -16,7 +17,7 @@ use Rattle.record_thread.specs.declared.Thread.{Thread}
 use Rattle.record_thread.specs.Thread.{no_thread, hides, shown_state, is_live, is_free, thread_of, kill}
 use Rattle.record_thread.specs.Thread.{exit, suspend, resume, end_wait}
 use Rattle.record_token.specs.declared.SuspendToken.{SuspendToken}
-use Rattle.record_token.specs.SuspendToken.{no_token}
+use Rattle.record_token.specs.SuspendToken.{no_token, kind_of}
 use Rattle.records.specs.declared.tables.Tables.{Tables}
 use Rattle.reply.specs.declared.Fields.{Fields}
 use Rattle.reply.specs.declared.Fields.TheVariants.{NoFields, OwnerField, JobFields}
@@ -66,6 +67,7 @@ use Rattle.records.specs.Tables.{thread_at, token_at, found_job, found_process, 
 use Rattle.records.specs.Tables.{found_token, put_job, put_own, put_inherited, put_process, put_fixed}
 use Rattle.records.specs.Tables.{put_thread, put_token}
 use Rattle.model.specs.Cases.{Run}
+use Rattle.claims.proofs.Tree.{same_at}
 use Rattle.claims.specs.Reachable.{AtOrAbove, here, below}
 use Rattle.claims.specs.Separation.{Trip, IsTrip, Apart, Calls, done, first, second, of_second}
 use Rattle.claims.specs.Separation.{to_second}
@@ -142,7 +144,7 @@ record Made : Type 0 where
   pub process_home : (process_at state 0).job ≡ 1
   pub other_processes : (p : ℕ) → (process_at state (suc p)).made ≡ false
   pub threads : (n : ℕ) → (thread_at state n).made ≡ false
-  pub tokens : (k : ℕ) → (token_at state k).held ≡ false
+  pub tokens : (k : ℕ) → (token_at state k).task ≡ None
   pub with_x : first_killed (to_second state calls) ≡ true
   pub without_x : first_killed (answers state (of_second calls)) ≡ false
 
@@ -165,7 +167,7 @@ unfolding Run get_action apply merged_action merge larger generate_new ◌and◌
     found_task child_of ended acts member_of hides shown_state is_live is_free thread_of kill
     exit suspend resume end_wait reply answered fresh_tables job_at own_at inherited_at process_at fixed_at thread_at
     token_at found_job found_process found_thread found_token put_job put_own put_inherited put_process put_fixed
-    put_thread put_token final of_second to_second calls
+    put_thread put_token kind_of final of_second to_second calls
 made =
     record {
       job_x = refl;
@@ -177,8 +179,7 @@ made =
           none_at (λ (q : Process). q.made) no_process refl (replicate 63 no_process) p refl;
       threads = λ n. none_at (λ (v : Thread). v.made) no_thread refl (replicate 128 no_thread) n
           refl;
-      tokens = λ k. none_at (λ (v : SuspendToken). v.held) no_token refl (replicate 64 no_token) k
-          refl;
+      tokens = λ k. ap (λ (v : SuspendToken). v.task) (same_at no_token 64 k);
       with_x = refl;
       without_x = refl;
     }
@@ -197,7 +198,7 @@ is_x =
       only_below = λ j m h. subst (AtOrAbove state 1) (sym (eqb-true j 1 h)) here;
       processes = home x refl;
       threads = λ n m. no_both m (made.threads n);
-      tokens = λ k m. no_both m (made.tokens k);
+      tokens = λ k a m. absurd (none-some _ (sym (made.tokens k) ∙ m));
     }
 
 is_y : IsTrip state y
@@ -208,7 +209,7 @@ is_y =
       only_below = λ j m h. subst (AtOrAbove state 2) (sym (eqb-true j 2 h)) here;
       processes = home y refl;
       threads = λ n m. no_both m (made.threads n);
-      tokens = λ k m. no_both m (made.tokens k);
+      tokens = λ k a m. absurd (none-some _ (sym (made.tokens k) ∙ m));
     }
 
 needed : Unguarded → ⊥
@@ -235,7 +236,7 @@ unfolding Run get_action apply merged_action merge larger generate_new ◌and◌
     found_task child_of ended acts member_of hides shown_state is_live is_free thread_of kill
     exit suspend resume end_wait reply answered fresh_tables job_at own_at inherited_at process_at fixed_at thread_at
     token_at found_job found_process found_thread found_token put_job put_own put_inherited put_process put_fixed
-    put_thread put_token
+    put_thread put_token kind_of
 separation_rows =
     record {
       premise_needed = needed;

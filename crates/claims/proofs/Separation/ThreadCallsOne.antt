@@ -1,12 +1,14 @@
 -- Calls of x on threads, waits and tokens, in one run: the tables that they leave are still
 -- related to the other run's. Assumes `Tree`, which every call keeps.
+use Rattle.std.proofs.Common.{Some}
 use Prim.Native.Nat.{ℕ}
-use mathlib.Core.Path.{◌≡◌, sym, ◌∙◌, subst}
+use mathlib.Core.Path.{◌≡◌, sym, ◌∙◌}
 use mathlib.Core.Bool.{true}
 use Rattle.laws.proofs.Cases.{if_on, Every, ok_on, guard_on, find_on}
 use Rattle.record_thread.specs.declared.Thread.{Thread}
 use Rattle.record_thread.specs.Thread.{suspend, resume}
-use Rattle.record_token.specs.declared.SuspendToken.{SuspendToken}
+use Rattle.record_token.proofs.Numbers.{a_task}
+use Rattle.record_token.specs.SuspendToken.{number}
 use Rattle.records.specs.declared.tables.Tables.{Tables}
 use Rattle.reply.specs.Reply.{reply}
 use Rattle.records.specs.Tables.{token_at, put_thread}
@@ -103,7 +105,7 @@ module _ {x y : Trip} {s t : Tables} (r : Agree x y s t) where
       let k : IsTask kind × (task_of x kind n ≡ true) = own_task u a c e in
       accept_on _
       (token_one (change_task_one r suspend (λ i w g. fits_suspend w g) kind n k.0 k.1)
-      new h _ (new_token_lem new kind n (h ∙ sym k.1)
+      new h _ (new_token_lem new kind n a (h ∙ sym k.1)
       (x_not_y_token r.apart new h ∙ sym (task_not_y r.apart kind n k.1)))))
 
   pub drop_token_one : Tree s → (k : ℕ) → OwnToken x k → Left x y t (drop_token_call s k)
@@ -112,14 +114,10 @@ module _ {x y : Trip} {s t : Tables} (r : Agree x y s t) where
       call_on s _ r
       (guard_on λ a. find_on λ v m. guard_on λ b.
       let h : x.tokens k ≡ true = in_table _ _ o a in
-      let q : ((token_at s k).held ≡ true) × (token_at s k ≡ v) = token_is s k v m in
-      let i : IsTask v.kind = subst (λ (w : SuspendToken). IsTask w.kind) q.1
-      (T.held_kind k q.0) in
-      let f : task_of x v.kind v.name ≡ true =
-      subst (λ (w : SuspendToken). task_of x w.kind w.name ≡ true) q.1
-      (sym ((r.tokens k).fits₁.of_x q.0) ∙ h) in
+      let q : (token_at s k).task ≡ Some v = token_is s k v m in
+      let f : task_of x (number v.kind) v.name ≡ true = sym ((r.tokens k).fits₁.of_x v q) ∙ h in
       accept_on _
-      (token_one (change_task_one r resume (λ n w g. fits_resume w g) v.kind v.name i f)
+      (token_one (change_task_one r resume (λ n w g. fits_resume w g) _ v.name (a_task v.kind (T.held_kind k v q)) f)
       k h _ (no_token_lem k (token_at s k))))
 
   pub suspend_one : (kind n : ℕ) → OwnTask x n kind → Left x y t (suspend_call s kind n)

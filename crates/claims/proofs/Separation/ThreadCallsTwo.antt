@@ -1,13 +1,15 @@
 -- Calls of y on threads, waits and tokens, in both runs: the same answers, and tables that are
 -- still related. Assumes `Tree`, which every call keeps.
+use Rattle.std.proofs.Common.{Some}
 use Prim.Native.Nat.{ℕ}
 use mathlib.Core.Path.{◌≡◌, refl, sym, ap, ◌∙◌, subst}
 use mathlib.Core.Bool.{true, false}
 use Rattle.laws.specs.Choice.{◌≤?◌, ◌=?◌}
 use Rattle.laws.proofs.Cases.{if_two, ok_two, guard_two, find_same}
 use Rattle.record_thread.specs.Thread.{DYING, suspend, resume}
+use Rattle.record_token.proofs.Numbers.{a_task}
 use Rattle.record_token.specs.declared.SuspendToken.{SuspendToken}
-use Rattle.record_token.specs.SuspendToken.{drop}
+use Rattle.record_token.specs.SuspendToken.{number, drop}
 use Rattle.records.specs.declared.tables.Tables.{Tables}
 use Rattle.reply.specs.Reply.{reply}
 use Rattle.records.specs.Tables.{token_at, put_token}
@@ -104,7 +106,7 @@ module _ {x y : Trip} {s t : Tables} (r : Agree x y s t) where
       guard_two (some_at_same r kind n _ k.0 l) λ _ _.
       accept_two _ _
       (token_both (change_task_two r suspend (λ i w f. fits_suspend w f) kind n) new _
-      (new_token_lem new kind n (g ∙ sym l) (h ∙ sym k.1))))
+      (new_token_lem new kind n a (g ∙ sym l) (h ∙ sym k.1))))
 
   pub drop_token_two : Tree s → (k : ℕ) → OwnToken y k → Replied x y (drop_token_call s k)
       (drop_token_call t k)
@@ -114,17 +116,13 @@ module _ {x y : Trip} {s t : Tables} (r : Agree x y s t) where
       (guard_two refl λ a _.
       let g : x.tokens k ≡ false = r.apart.tokens k (in_table _ _ o a) in
       find_same (token_same r k g) λ v m.
-      let q : ((token_at s k).held ≡ true) × (token_at s k ≡ v) = token_is s k v m in
-      let i : IsTask v.kind = subst (λ (w : SuspendToken). IsTask w.kind) q.1
-      (T.held_kind k q.0) in
-      let l : task_of x v.kind v.name ≡ false =
-      subst (λ (w : SuspendToken). task_of x w.kind w.name ≡ false) q.1
-      (sym ((r.tokens k).fits₁.of_x q.0) ∙ g) in
-      guard_two (some_at_same r v.kind v.name 0 i l) λ _ _.
+      let q : (token_at s k).task ≡ Some v = token_is s k v m in
+      let l : task_of x (number v.kind) v.name ≡ false = sym ((r.tokens k).fits₁.of_x v q) ∙ g in
+      guard_two (some_at_same r _ v.name 0 (a_task v.kind (T.held_kind k v q)) l) λ _ _.
       accept_two _ _ (subst (λ (w : SuspendToken). Agree x y
-      (put_token (change_task resume s v.kind v.name) k (drop (token_at s k)))
-      (put_token (change_task resume t v.kind v.name) k (drop w))) ((r.tokens k).same g)
-      (token_both (change_task_two r resume (λ n w f. fits_resume w f) v.kind v.name) k _
+      (put_token (change_task resume s (number v.kind) v.name) k (drop (token_at s k)))
+      (put_token (change_task resume t (number v.kind) v.name) k (drop w))) ((r.tokens k).same g)
+      (token_both (change_task_two r resume (λ n w f. fits_resume w f) (number v.kind) v.name) k _
       (no_token_lem k (token_at s k)))))
 
   pub suspend_two : (kind n : ℕ) → OwnTask y n kind →

@@ -15,6 +15,7 @@ use Rattle.record_thread.specs.declared.Waiting.{Waiting}
 use Rattle.record_thread.specs.declared.Thread.{Thread}
 use Rattle.record_thread.specs.Thread.{is_waiting}
 use Rattle.record_token.specs.declared.SuspendToken.{SuspendToken}
+use Rattle.record_token.specs.SuspendToken.{number}
 use Rattle.records.specs.declared.tables.Tables.{Tables}
 use Rattle.records.specs.Tables.{job_at, process_at, thread_at, found_job, found_process, found_thread}
 use Rattle.records.specs.Owners.{found_task, as_task}
@@ -49,7 +50,8 @@ module _ (t : Tables) (n : ℕ) where
   pub found_job_lem : as_task (found_job t n) ≡ Some tt → (job_at t n).made ≡ true
   unfolding found_job as_task
   found_job_lem =
-      if_on (λ (x : Option Job). as_task x ≡ Some tt → (job_at t n).made ≡ true) _ _ _ (λ h e. h) (λ h e. absurd (none-some _ e))
+      if_on (λ (x : Option Job). as_task x ≡ Some tt → (job_at t n).made ≡ true) _ _ _ (λ h e. h)
+      (λ h e. absurd (none-some _ e))
 
   pub found_process_lem : as_task (found_process t n) ≡ Some tt → (process_at t n).made ≡ true
   unfolding found_process as_task
@@ -147,5 +149,5 @@ module _ {t u : Tables} (k : Kept t u) where
         unmade = g.unmade;
         held_made = g.held_made;
         held_kind = g.held_kind;
-        task_made = λ h. found_task_over k v.kind v.name (g.task_made h);
+        task_made = λ a h. found_task_over k (number a.kind) a.name (g.task_made a h);
       }

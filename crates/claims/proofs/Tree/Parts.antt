@@ -4,7 +4,7 @@ use Rattle.std.proofs.Common.{Some, None}
 use Prim.Native.Nat.{ℕ}
 use mathlib.Core.Path.{◌≡◌}
 use mathlib.Core.Bool.{Bool, true, false}
-use Rattle.laws.specs.Choice.{◌or◌, ◌=?◌}
+use Rattle.laws.specs.Choice.{◌=?◌}
 use Rattle.job_policy.specs.declared.JobPolicy.{JobPolicy}
 use Rattle.job_policy.specs.Policy.{no_policy}
 use Rattle.record_exception.specs.declared.Place.TheVariants.{OfJob, OfJobDebugger}
@@ -17,8 +17,10 @@ use Rattle.record_process.specs.Process.{critical_to, no_process, is_exited}
 use Rattle.record_thread.specs.declared.Waiting.TheVariants.{NotWaiting, InException}
 use Rattle.record_thread.specs.declared.Thread.{Thread}
 use Rattle.record_thread.specs.Thread.{DEAD, no_thread}
+use Rattle.record_token.specs.declared.Kind.TheVariants.{Job as JobKind}
 use Rattle.record_token.specs.declared.SuspendToken.{SuspendToken}
-use Rattle.record_token.specs.SuspendToken.{no_token}
+use Rattle.record_token.specs.declared.Task.{Task}
+use Rattle.record_token.specs.SuspendToken.{no_token, number}
 use Rattle.records.specs.declared.tables.Tables.{Tables}
 use Rattle.records.specs.Tables.{job_at, own_at, inherited_at, process_at, fixed_at, thread_at, token_at}
 use Rattle.records.specs.Owners.{found_task}
@@ -66,9 +68,9 @@ pub record GoodThread (t : Tables) (v : Thread) : Type 0 where
 
 pub record GoodToken (t : Tables) (k : SuspendToken) : Type 0 where
   pub unmade : k.made ≡ false → k ≡ no_token
-  pub held_made : k.held ≡ true → k.made ≡ true
-  pub held_kind : k.held ≡ true → (k.kind =? 1) or (k.kind =? 2) ≡ true
-  pub task_made : k.held ≡ true → found_task t k.kind k.name ≡ Some tt
+  pub held_made : (a : Task) → k.task ≡ Some a → k.made ≡ true
+  pub held_kind : (a : Task) → k.task ≡ Some a → a.kind ≡ JobKind → ⊥
+  pub task_made : (a : Task) → k.task ≡ Some a → found_task t (number a.kind) a.name ≡ Some tt
 
 module _ {t : Tables} (T : Tree t) where
   pub good_job : (j : ℕ) → GoodJob t j (job_at t j) (own_at t j) (inherited_at t j)

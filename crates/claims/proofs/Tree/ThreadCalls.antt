@@ -1,12 +1,12 @@
 -- The calls on threads, their waits and suspend tokens keep `Tree`. Assumes nothing.
 use Rattle.std.proofs.Common.{Some}
+use Rattle.std.proofs.lemmas.Option.{none-some, same_Some}
 use Prim.Native.Nat.{ℕ}
-use native.Mathlib.Omega.{arith}
 use mathlib.Core.Path.{◌≡◌, refl, sym, ap, ◌∙◌, subst}
 use mathlib.Core.Bool.{true, false}
 use mathlib.Core.List.{map}
-use borrow.Author.Tests.{not-false, eqb-true, ltb-false, eqb-false, eq-eqb}
-use Rattle.laws.specs.Choice.{◌=?◌, ◌<?◌, ◌and◌, ◌or◌, if◌then◌otherwise◌}
+use borrow.Author.Tests.{not-false, eqb-true}
+use Rattle.laws.specs.Choice.{◌=?◌, ◌and◌, ◌or◌, if◌then◌otherwise◌}
 use Rattle.laws.specs.Guarded.{found}
 use Rattle.laws.proofs.Cases.{by, no_both, if_on, ok_on, guard_on, find_on}
 use Rattle.record_process.specs.declared.Process.{Process}
@@ -17,8 +17,8 @@ use Rattle.record_thread.specs.declared.Thread.{Thread}
 use Rattle.record_thread.specs.Thread.{DYING, DEAD, no_thread, new_thread, start, kill, exit}
 use Rattle.record_thread.specs.Thread.{waits_plainly, is_free, thread_of, suspend, resume, waits}
 use Rattle.record_thread.specs.Thread.{end_wait, is_waiting}
-use Rattle.record_token.specs.declared.SuspendToken.{SuspendToken}
-use Rattle.record_token.specs.SuspendToken.{new_token, drop}
+use Rattle.record_token.proofs.Numbers.{numbered, not_job}
+use Rattle.record_token.specs.SuspendToken.{number, kind_of, new_token, drop}
 use Rattle.records.specs.declared.tables.Tables.{Tables}
 use Rattle.records.specs.Tables.{job_at, process_at, thread_at, token_at, put_thread, with_threads}
 use Rattle.records.specs.Owners.{found_task}
@@ -213,14 +213,6 @@ module _ {t : Tables} (T : Tree t) where
       change_task_tree T resume resume_made (λ v h m. resume_good h m) kind n
       (task_thread kind n a e)
 
-  kind_cases : (kind : ℕ) → (2 <? kind) ≡ false → (kind =? 0) ≡ false
-      → (kind =? 1) or (kind =? 2) ≡ true
-  unfolding ◌or◌
-  kind_cases kind a b =
-      by (kind =? 1) (λ e. rw e)
-      (λ e. rw e (eq-eqb kind 2 (let x : kind ≡ 0 → ⊥ = eqb-false kind 0 b in
-      let y : kind ≡ 1 → ⊥ = eqb-false kind 1 e in omega (arith, ltb-false 2 kind a))))
-
   pub create_token_call_tree : (new kind n : ℕ) → After Tree (create_token_call t new kind n)
   unfolding create_token_call create_token suspend_task
   create_token_call_tree new kind n =
@@ -229,35 +221,28 @@ module _ {t : Tables} (T : Tree t) where
       let f : found_task t kind n ≡ Some tt = task_is t n kind v e in
       let k : Kept t (suspend_task t kind n) =
       change_task_kept T suspend suspend_made (λ v h m. suspend_good h m) kind n in
-      accept_on _ (put_token_tree _ (suspend_tree kind n h f) new (new_token kind n)
+      accept_on _ (put_token_tree _ (suspend_tree kind n h f) new (new_token (kind_of kind) n)
       (record {
         unmade = λ x. no_both refl x;
-        held_made = λ x. refl;
-        held_kind = λ x. kind_cases kind a h;
-        task_made = λ x. found_task_over k kind n f;
+        held_made = λ a x. refl;
+        held_kind = λ b x. rw (← same_Some _ _ x)
+            (λ z. no_both (ap (λ (c : ℕ). c =? 0) (sym (numbered kind a) ∙ ap number z)) h);
+        task_made = λ b x. rw (← same_Some _ _ x, numbered kind a) (found_task_over k kind n f);
       })))
-
-  kind_task : (kind : ℕ) → (kind =? 1) or (kind =? 2) ≡ true → (kind =? 0) ≡ false
-  unfolding ◌or◌
-  kind_task kind h =
-      by (kind =? 0)
-      (λ e. no_both (subst (λ (k : ℕ). (k =? 1) or (k =? 2) ≡ true) (eqb-true kind 0 e) h) refl)
-      (λ e. e)
 
   pub drop_token_call_tree : (k : ℕ) → After Tree (drop_token_call t k)
   unfolding drop_token_call drop_token
   drop_token_call_tree k =
       call_on t _ T (guard_on λ a. find_on λ v e. guard_on λ b.
-      let f = token_is t k v e in
-      accept_on _ (subst (λ (w : SuspendToken). Tree (drop_token t k w.kind w.name)) f.1
-      (put_token_tree _ (resume_tree _ _ (kind_task (token_at t k).kind (T.held_kind k f.0))
-      (T.task_made k f.0)) k (drop (token_at t k))
+      let f : (token_at t k).task ≡ Some v = token_is t k v e in
+      accept_on _ (put_token_tree _ (resume_tree _ _ (not_job v.kind (T.held_kind k v f)) (T.task_made k v f)) k
+      (drop (token_at t k))
       (record {
-        unmade = λ x. no_both (T.held_made k f.0) x;
-        held_made = λ x. no_both x refl;
-        held_kind = λ x. no_both x refl;
-        task_made = λ x. no_both x refl;
-      }))))
+        unmade = λ x. no_both (T.held_made k v f) x;
+        held_made = λ a x. absurd (none-some _ x);
+        held_kind = λ a x. absurd (none-some _ x);
+        task_made = λ a x. absurd (none-some _ x);
+      })))
 
   pub suspend_call_tree : (kind n : ℕ) → After Tree (suspend_call t kind n)
   unfolding suspend_call

@@ -5,40 +5,32 @@ use Rattle.reply.specs.Reply.{answered}
 use Rattle.model.specs.ExceptionCalls.{set_strategy}
 use Rattle.model.proofs.Answering.{refuses, accepts}
 use Rattle.thread.proofs.Moving.{settles_refused}
-use Rattle.exceptionate.proofs.Held.{past_table, no_thread, no_exception, held, kept_waiting}
+use Rattle.exceptionate.proofs.Held.{is_held, not_held, kept_waiting}
 use Rattle.exceptionate.proofs.set_strategy.Goals as goal
-
-pub returns-then-thread-ge128 : goal.returns-then-thread-ge128
-unfolding set_strategy
-returns-then-thread-ge128 c t h = past_table t _ _ h c.if-thread-ge128.true
-
-pub returns-in_default : goal.returns-in_default
-unfolding set_strategy
-returns-in_default c t h = no_thread t _ _ h c.if-thread-ge128.false c.found.ensures c.in_default.is
 
 pub returns-in_default-exception : goal.returns-in_default-exception
 unfolding set_strategy
 returns-in_default-exception c t h =
-    no_exception t _ _ h c.if-thread-ge128.false c.found.ensures c.in-Some.is c.exception.ensures
-    c.in_default-exception.is
+    not_held t _ _ c.if-thread-ge128.false h c.found.ensures c.in-Some.is c.exception.ensures c.in_default-exception.is
+    (settles_refused t _ _ h)
 
 pub returns-then-strategy-gt1 : goal.returns-then-strategy-gt1
 unfolding set_strategy
 returns-then-strategy-gt1 c t h =
-    held t _ _ h c.if-thread-ge128.false c.found.ensures c.in-Some.is c.exception.ensures c.in-Some-exception.is
+    is_held t _ _ c.if-thread-ge128.false h c.found.ensures c.in-Some.is c.exception.ensures c.in-Some-exception.is
     (refuses t _ _ (settles_refused t _ _ h) (lt-ltb 1 _ c.if-strategy-gt1.true))
 
 pub returns-then-not-has_strategy : goal.returns-then-not-has_strategy
 unfolding set_strategy
 returns-then-not-has_strategy c t h =
-    held t _ _ h c.if-thread-ge128.false c.found.ensures c.in-Some.is c.exception.ensures c.in-Some-exception.is
+    is_held t _ _ c.if-thread-ge128.false h c.found.ensures c.in-Some.is c.exception.ensures c.in-Some-exception.is
     (passes (answered t) _ _ (le-ltb 1 _ c.if-strategy-gt1.false)
     (refuses t _ _ (settles_refused t _ _ h) (not_yes (told c.has_strategy.ensures c.if-not-has_strategy.true))))
 
 pub returns : goal.returns
 unfolding set_strategy
 returns c t h =
-    held t _ _ h c.if-thread-ge128.false c.found.ensures c.in-Some.is c.exception.ensures c.in-Some-exception.is
+    is_held t _ _ c.if-thread-ge128.false h c.found.ensures c.in-Some.is c.exception.ensures c.in-Some-exception.is
     (passes (answered t) _ _ (le-ltb 1 _ c.if-strategy-gt1.false)
     (passes (answered t) _ _ (not_no (told c.has_strategy.ensures c.if-not-has_strategy.false))
     (accepts t (kept_waiting _ t _ _ c.if-thread-ge128.false c.found.ensures c.in-Some.is refl))))

@@ -1,5 +1,0 @@
-use Rattle.std.proofs.Common.{sym, ◌∙◌}
-use Rattle.exception_calls.proofs.set_state.Goals as goal
-
-pub returns : goal.returns
-returns c = c.thread_settled.ensures ∙ c.set_state-done.ensures _ (sym c.thread_at-v.ensures)

@@ -1,9 +1,0 @@
-use Rattle.std.proofs.Common.{sym, ◌∙◌}
-use Rattle.job.specs.Job.{set_in}
-use Rattle.policy_calls.proofs.finish.Goals as goal
-
-pub returns : goal.returns
-unfolding set_in
-returns c =
-    simp (c.with_own.ensures) at c.replied.ensures
-    ∙ c.settle_policy-done.ensures _ (sym c.job_at-j.ensures) (sym c.own_at-own.ensures) (sym c.job_empty-empty.ensures)
