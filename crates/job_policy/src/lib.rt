@@ -1,5 +1,6 @@
 // job_policy: the policy of a job by value, and its timer slack. Follows job_policy.rs.
-// Conditions, actions and modes are numbers; one outside its list changes nothing and finds nothing.
+// Conditions, actions and modes are numbers. A condition or an action outside its list changes nothing and finds
+// nothing; a mode is kept as it is.
 #![tactic(auto)]
 
 ghost use Rattle.std.specs.Prelude.{true, ◌≡◌};
@@ -140,7 +141,8 @@ pub fn cases() -> bool
 
 // -- Timer slack ---------------------------------------------------------------------------
 
-// How a timer may deviate from its deadline: a number, by which no code decides. It is kept, and shown as it came.
+// How a timer may deviate from its deadline. A number: a call takes any, and refuses one above 2. Past that no code asks
+// which it is; it is kept, and shown as it came.
 #[derive(Drop)]
 pub struct Slack;
 

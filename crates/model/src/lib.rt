@@ -1,5 +1,6 @@
-// model: specs/ says what every call means. Here are the types that the definitions of exceptions share with the code,
-// and the one function that carries the claims about single calls; those about lists of calls are in `claims`.
+// model: specs/ says what every call means. Here are the types that the definitions of exceptions speak of (`Route` the
+// code does too), and the one function that carries the claims about single calls; those about lists of calls are in
+// `claims`.
 #![tactic(auto)]
 
 ghost use Rattle.std.specs.Prelude.{true, ◌≡◌};

@@ -43,7 +43,7 @@ impl Level {
 
 // -- Exceptions ----------------------------------------------------------------------------
 
-// The numbers of ExceptionType. They stay numbers: a raise takes any, and `route_of` sorts them by a match.
+// The numbers of ExceptionType. They stay numbers: a raise takes any, and the scope has them sorted by a match.
 #[derive(Drop)]
 pub struct ExceptionType;
 
