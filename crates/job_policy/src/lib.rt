@@ -141,8 +141,8 @@ pub fn cases() -> bool
 
 // -- Timer slack ---------------------------------------------------------------------------
 
-// How a timer may deviate from its deadline. A number: a call takes any, and refuses one above 2. Past that no code asks
-// which it is; it is kept, and shown as it came.
+// How a timer may deviate from its deadline. A number: a call takes any, and refuses one above 2. Past that no code
+// asks which it is; it is kept, and shown as it came.
 #[derive(Drop)]
 pub struct Slack;
 
