@@ -3,7 +3,7 @@
 // program with a message.
 #![tactic(auto)]
 
-ghost use Rattle.std.specs.Prelude.{◌≤◌, length, IfOk};
+ghost use Rattle.std.specs.Prelude.{◌-◌, ◌≤◌, ◌≡◌, length, take, IfOk};
 
 use buffer::Progress;
 use std::fmt::Display;
@@ -31,11 +31,13 @@ fn write_out(rt: &impl Print, lines: &[u8]) -> Result<(), Failure> {
     rt.write_all(lines).map_err(Failure::Output)
 }
 
-// Reads once, into what it is lent.
-fn more(input: &mut impl Read, room: &mut [u8]) -> Result<usize, Failure>
-    ensures { IfOk result (λ n. n ≤ length room.new) }
+// Reads once, behind the first `have` bytes.
+fn more(input: &mut impl Read, buf: &mut [u8], have: usize) -> Result<usize, Failure>
+    requires { have ≤ length buf.old }
+    ensures kept { take have buf.new ≡ take have buf.old }
+    ensures in_bounds { IfOk result (λ n. n ≤ length buf.new - have) }
 {
-    input.read(room).map_err(Failure::Input)
+    input.read(&mut buf[have..]).map_err(Failure::Input)
 }
 
 // Performs what is there, and once nothing comes of it, reads more. A proved loop has to end, and nothing says that the
@@ -54,7 +56,7 @@ fn run(
     };
     for _ in 0..u64::MAX {
         if progress.written == 0 {
-            let n = more(input, &mut buf[progress.have..])?;
+            let n = more(input, buf, progress.have)?;
             if n == 0 {
                 let last = stream_state::close(progress.state, &buf[..progress.have], out);
                 return write_out(rt, &out[..last]);

@@ -4,10 +4,9 @@
 
 mod dump;
 
-ghost use Rattle.std.specs.Prelude.{◌≤◌, length};
+ghost use Rattle.std.specs.Prelude.{◌≤◌, length, IfOk};
 ghost use Rattle.io.specs.Counts.{IsPrefixLen};
 
-use std::alloc::AllocError;
 use std::fmt::Display;
 use std::io::Read;
 use std::{fmt, io};
@@ -17,7 +16,6 @@ use stream_state::State;
 #[derive(Debug, Drop)]
 enum Failure {
     Output(io::Error),
-    Memory,
     Cut,
     TooLong,
 }
@@ -26,16 +24,9 @@ impl Display for Failure {
     fn fmt<W: fmt::Write>(&self, f: &mut fmt::Formatter<W>) -> fmt::Result {
         match self {
             Failure::Output(error) => write!(f, "standard output: {error}"),
-            Failure::Memory => write!(f, "dumplists: no memory is left"),
             Failure::Cut => write!(f, "dumplists: the last list is cut short"),
             Failure::TooLong => write!(f, "dumplists: a list of more than 65536 bytes"),
         }
-    }
-}
-
-impl From<AllocError> for Failure {
-    fn from(_error: AllocError) -> Failure {
-        Failure::Memory
     }
 }
 
@@ -50,7 +41,9 @@ fn feed_list<'a>(
     rt: &impl Print,
     list: &'a [u8],
     out: &mut [u8],
-) -> Result<(State, &'a [u8]), Failure> {
+) -> Result<(State, &'a [u8]), Failure>
+    ensures { IfOk result (λ p. length p.1.now ≤ length list.now) }
+{
     let mut state = stream_state::fresh();
     let mut rest = list;
     while !rest.is_empty() {
@@ -70,19 +63,13 @@ fn feed_list<'a>(
     Ok((state, rest))
 }
 
-// Runs a list from a fresh root.
-fn run_list(
-    rt: &impl Print,
-    list: &[u8],
-    out: &mut [u8],
-    text: &mut String,
-) -> Result<(), Failure> {
+// Runs a list from a fresh root. `out` has room for any records, so that no memory is asked for.
+fn run_list(rt: &impl Print, list: &[u8], out: &mut [u8]) -> Result<(), Failure> {
     let (state, left) = feed_list(rt, list, out)?;
     let n = stream_state::close(state, left, out);
     write_out(rt, &out[..n])?;
-    text.clear();
-    dump::write_tables(text, &state.tables)?;
-    write_out(rt, text.as_bytes())
+    let end = dump::write_tables(out, &state.tables);
+    write_out(rt, &out[..end.min(out.len())])
 }
 
 // -- Input ---------------------------------------------------------------------------------
@@ -114,10 +101,9 @@ fn next_length(input: &mut impl Read) -> Result<Option<usize>, Failure> {
 }
 
 // Runs all lists. A proved loop has to end, and nothing says that the input does: no run takes so many turns.
-fn run(rt: &(impl Print + AllocGlobal), input: &mut impl Read) -> Result<(), Failure> {
+fn run(rt: &impl Print, input: &mut impl Read) -> Result<(), Failure> {
     let mut buf = [0u8; 65536];
     let mut out = [0u8; 65536];
-    let mut text = String::new(rt.alloc());
     for _ in 0..u64::MAX {
         let Some(n) = next_length(input)? else {
             return Ok(());
@@ -126,7 +112,7 @@ fn run(rt: &(impl Print + AllocGlobal), input: &mut impl Read) -> Result<(), Fai
         if read_full(input, list) < n {
             return Err(Failure::Cut);
         }
-        run_list(rt, list, &mut out, &mut text)?;
+        run_list(rt, list, &mut out)?;
     }
     Ok(())
 }
