@@ -1,4 +1,5 @@
 -- The two walks of a job's kill, from one that it lists to the next: what the model does at every name is done.
+--     skips                                          what passes no test is done with nothing
 --     Children, child_here, child_turn, child_end    before place n, the children are killed
 --     Members, member_here, member_turn, member_end  before place n, the processes have exited
 -- Assumes nothing.
@@ -40,7 +41,7 @@ module _ {A : Type 0} (f : A → Bool) (g : ℕ → Tables → Tables) (l : List
       let r = skips_in m (suc i) (ap (drop 1) c) (rw (← add-one) s) in
       rw a (r ∙ ap (λ (k : ℕ). up_to k g t) (omega arith)))
 
-  skips : (i : ℕ) → u ≡ up_to i g t → u ≡ up_to (next f l i) g t
+  pub skips : (i : ℕ) → u ≡ up_to i g t → u ≡ up_to (next f l i) g t
   unfolding next
   skips i h = skips_in (drop i l) i refl h
 

@@ -1,6 +1,6 @@
 -- One pass over a list comes to what `set_policy_basic` says of it: the check of every entry first,
 -- then the entries in order.
---     one_pass_at              what is answered then is the definition's answer
+--     one_pass, one_pass_at    what is answered then is the definition's answer
 --     set_there, unset_there   whether the parent set a condition
 --     pass_next, pass_end      a turn of a loop over the list, and its end
 -- Assumes nothing.
@@ -128,10 +128,10 @@ spoils t j option bad s e =
     by (1 <? option) (λ h. stops _ _ _ h) (λ h. passes _ _ _ h (stops _ _ _ e))
 
 -- what is known before the first entry
-abbrev begin : Tables → ℕ → ℕ → Work
+abbrev pub begin : Tables → ℕ → ℕ → Work
 begin t j option = start_work (own_at t j) (inherited_at t j) option
 
-one_pass : (t : Tables) (j option : ℕ) (l : List BasicPolicy) →
+pub one_pass : (t : Tables) (j option : ℕ) (l : List BasicPolicy) →
     finish_work t j option (after_each (begin t j option) l) ≡ set_policy_basic t j option l
 unfolding finish_work set_policy_basic set_policy answer_with ◌or◌
 one_pass t j option l =

@@ -3,10 +3,11 @@
 --     decimal_parts, digits_parts    the text of n / 10 ^ k, and then the last k digits of n
 --     exact                          a number of so many digits
 --     length_decimal, rest_fits      how long they are
---     put_more                       a number that is written in two parts
+--     put_more, put_twice            a number that is written in two parts
 --     zero_text, below_text, from_text        a signed number by its distance from 0
+--     gap_fits, gap_casts, gap_sum, nonneg    that distance, as the machine takes it
 -- Assumes nothing.
-use Prim.Native.Nat.{ℕ, zero, suc, ◌+◌, ◌*◌, ◌/◌, ◌%◌, ◌^◌, ◌≤◌, ◌<◌}
+use Prim.Native.Nat.{ℕ, zero, suc, ◌+◌, ◌-◌, ◌*◌, ◌/◌, ◌%◌, ◌^◌, ◌≤◌, ◌<◌}
 use native.Mathlib.Omega.{arith}
 use native.Mathlib.Nat.{pow-suc, pow-succ', one-le-pow, mul_assoc}
 use native.Mathlib.Nat.{div-one, div-add-mod', div-div-eq-div-mul}
@@ -14,14 +15,14 @@ use mathlib.Core.Path.{◌≡◌, refl, sym, ◌∙◌, ap}
 use mathlib.Core.Bool.{true, false, true≢false}
 use mathlib.Core.List.{List, [], ◌∷◌, ◌++◌, append_assoc, append-nil}
 use borrow.Author.Tests.{lt-ltb, le-ltb, ltb-true}
-use lib.Dec.{ltb, lit<}
+use lib.Dec.{T, ltb, lit<}
 use lib.ListN.{length, length-append}
 use Rattle.laws.proofs.Cases.{by}
-use lib.IntN.{ℤ, pos, negsuc, nat_abs}
-use lib.Signed.{lt_z}
+use lib.IntN.{ℤ, pos, negsuc, nat_abs, ◌-ℤ◌}
+use lib.Signed.{lt_z, non_neg}
 use mir.Syntax.{w64}
-use mir.Val.{SFits, to_z, of_z}
-use mir.Facts.{to_z-of_z}
+use mir.Val.{Fits, SFits, to_z, of_z}
+use mir.Facts.{to_z-of_z, to_z_pos, to_z-neg}
 use Rattle.laws.specs.Choice.{if◌then◌otherwise◌}
 use Rattle.lines.specs.Line.{MINUS, digit, text_within, decimal_text, last_digits, signed_text}
 use Rattle.lines.specs.Line.{Put}
@@ -127,6 +128,10 @@ module _ (k n : ℕ) (h : 10 ^ k ≤ n) (l : n < 2 ^ 64) where
       Put y z j r (last_digits k (n % 10 ^ k)) → Put x z i r (decimal_text n)
   put_more p q = rw (decimal_parts k n h l, last_by k n) (put_then p q)
 
+pub put_twice : {x y z : List ℕ} {i j r : ℕ} (k n : ℕ) → Put x y i j (last_digits k (n / 10 ^ k)) →
+    Put y z j r (last_digits k (n % 10 ^ k)) → Put x z i r (last_digits (k + k) n)
+put_twice k n p q = rw (digits_parts k k n, last_by k n) (put_then p q)
+
 -- ---- Signed numbers ------------------------------------------------------------------------
 
 -- what a signed number is after its bits were read back
@@ -149,3 +154,49 @@ pub from_text : (z : ℤ) → lt_z z (pos 0) ≡ false → signed_text z ≡ dec
 unfolding signed_text
 from_text (pos n) b = refl
 from_text (negsuc n) b = absurd (true≢false b)
+
+-- -1 - z as the machine has it
+abbrev gap : ℤ → ℤ
+gap z = to_z w64 (2 ^ 64 - 1) -ℤ to_z w64 (of_z w64 z)
+
+minus_one : to_z w64 (2 ^ 64 - 1) ≡ negsuc 0
+minus_one = to_z-neg w64 0 (lit< tt)
+
+-- z below 0 is -1 - n for some n
+Below : ℤ → Type 0
+Below z = (n : ℕ) × ((z ≡ negsuc n) × (n < 2 ^ 63))
+
+below_is : (z : ℤ) → SFits w64 z → lt_z z (pos 0) ≡ true → Below z
+unfolding Below
+below_is (pos n) f b = absurd (omega (arith, ltb-true n 0 b))
+below_is (negsuc n) f b = (n, (refl, f.sfits))
+
+gap_is : (n : ℕ) → n < 2 ^ 63 → gap (negsuc n) ≡ pos n
+gap_is n h =
+    rw (minus_one, number_is (negsuc n) (record { sfits = h }), le-ltb (suc n) 1 (omega arith))
+    (ap pos (omega arith))
+
+module _ (z : ℤ) (f : SFits w64 z) (b : lt_z z (pos 0) ≡ true) where
+  pub gap_fits : SFits w64 (gap z)
+  unfolding Below
+  gap_fits =
+      let s = below_is z f b in
+      rw (s.1.0, gap_is s.0 s.1.1) (record { sfits = s.1.1 })
+
+  pub gap_casts :
+      T (non_neg (to_z w64 (of_z w64 (gap z)))) × Fits w64 (nat_abs (to_z w64 (of_z w64 (gap z))))
+  unfolding Below
+  gap_casts =
+      let s = below_is z f b in
+      rw (s.1.0, gap_is s.0 s.1.1, to_z_pos w64 s.1.1)
+      (tt, record { fits = omega (arith, s.1.1) })
+
+  pub gap_sum : nat_abs (to_z w64 (of_z w64 (gap z))) + 1 ≡ nat_abs z
+  unfolding Below
+  gap_sum =
+      let s = below_is z f b in
+      rw (s.1.0, gap_is s.0 s.1.1, to_z_pos w64 s.1.1) (omega arith)
+
+pub nonneg : (z : ℤ) → lt_z z (pos 0) ≡ false → T (non_neg z)
+nonneg (pos n) b = tt
+nonneg (negsuc n) b = absurd (true≢false b)

@@ -1,15 +1,17 @@
 -- Texts in a buffer.
 --     put_then            one text after another
---     put_none            no byte
+--     put_one, put_none   one byte, no byte
 --     left_in             what is in the buffer once its writer is gone
 --     no_room, with_room  a line, where there is no room and where there is
 --     roomy               what was written, where there was room
 -- Assumes nothing.
-use Prim.Native.Nat.{ℕ, ◌-◌, ◌<◌, ◌≤◌}
+use Prim.Native.Nat.{ℕ, ◌+◌, ◌-◌, ◌<◌, ◌≤◌}
 use native.Mathlib.Omega.{arith}
-use mathlib.Core.Path.{◌≡◌, sym, ◌∙◌}
-use mathlib.Core.List.{List, [], ◌++◌, append_assoc, append-nil}
-use lib.ListN.{length, take, length-append}
+use native.Mathlib.Numerals.{add-one}
+use mathlib.Core.Path.{◌≡◌, refl, sym, ◌∙◌}
+use mathlib.Core.List.{List, [], ◌∷◌, ◌++◌, append_assoc, append-nil}
+use lib.ListN.{length, set, take, length-append}
+use lib.Seq.{take-suc-set}
 use borrow.Author.Tests.{lt-ltb, le-ltb}
 use Rattle.laws.specs.Choice.{if◌then◌otherwise◌}
 use Rattle.lines.specs.Line.{within, Put}
@@ -21,6 +23,10 @@ put_then {a = a} {i = i} {x = x} {y = y} p q =
       end = simp length-append (omega (arith, p.end, q.end));
       holds = q.holds ∙ rw p.holds (append_assoc (take i a) x y);
     }
+
+pub put_one : (l : List ℕ) (at byte : ℕ) → at < length l →
+    Put l (set l at byte) at (at + 1) (byte ∷ [])
+put_one l at byte h = record { end = refl; holds = rw (add-one, take-suc-set l at byte) }
 
 pub put_none : (l : List ℕ) (at : ℕ) → Put l l at at []
 put_none l at = record { end = omega arith; holds = sym (append-nil (take at l)) }

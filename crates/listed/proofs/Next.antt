@@ -3,6 +3,7 @@
 --     next_here, next_on_lem, next_end       a step of the loop that finds the next
 --     among, next_small                      the first 256 of a table
 --     found_next, found_none                 where the loop stands at its return
+--     next_from, next_within, next_passes    what was found
 --     Found, next_is, next_none              what was found
 -- Assumes nothing.
 use Prim.Native.Nat.{ℕ, ◌+◌, ◌<◌, ◌≤◌}
@@ -81,19 +82,19 @@ module _ {A : Type 0} (f : A → Bool) where
   skipped_passes (x ∷ m) d h =
       by (f x) (λ a. rw (a, a)) (λ a. rw a (skipped_passes m d (omega (arith, rw a at h))))
 
-  passes : (l : List A) (i : ℕ) (d : A) → next f l i < length l → f (get_or l (next f l i) d) ≡ true
+  pub next_passes : (l : List A) (i : ℕ) (d : A) → next f l i < length l → f (get_or l (next f l i) d) ≡ true
   unfolding next
-  passes l i d h =
+  next_passes l i d h =
       ap f (sym (get_or-drop i l (skipped f (drop i l)) d))
       ∙ skipped_passes (drop i l) d (omega (arith, length-drop i l, h))
 
-  from_on : (l : List A) (i : ℕ) → i ≤ next f l i
+  pub next_from : (l : List A) (i : ℕ) {r : ℕ} → r ≡ next f l i → i ≤ r
   unfolding next
-  from_on l i = omega arith
+  next_from l i e = omega (arith, e)
 
-  within : (l : List A) (i : ℕ) → i ≤ length l → next f l i ≤ length l
+  pub next_within : (l : List A) (i : ℕ) {r : ℕ} (n : ℕ) → length l ≡ n → r ≡ next f l i → i ≤ n → r ≤ n
   unfolding next
-  within l i h = omega (arith, h, skipped_le (drop i l), length-drop i l)
+  next_within l i n e g h = omega (arith, e, g, h, skipped_le (drop i l), length-drop i l)
 
   -- k is the next: it is within the table, not before i, and passes; those between do not
   pub record Found (l : List A) (i k : ℕ) : Type 0 where
@@ -105,9 +106,9 @@ module _ {A : Type 0} (f : A → Bool) where
   found : (l : List A) (i : ℕ) {k : ℕ} → next f l i < length l → k ≡ next f l i → Found l i k
   found l i {k} b e = record {
     is = e;
-    from = rw e (from_on l i);
+    from = next_from l i e;
     below = rw e b;
-    at = λ d. rw e (passes l i d b);
+    at = λ d. rw e (next_passes l i d b);
   }
 
   pub next_is : (l : List A) (i : ℕ) {k : ℕ} {r : Option ℕ} → r ≡ next_in f l i → r ≡ Some k → Found l i k
@@ -123,4 +124,4 @@ module _ {A : Type 0} (f : A → Bool) where
   next_none l i e h b =
       by (next f l i <? length l)
       (λ a. let o : Some (next f l i) ≡ None = rw a at (sym e ∙ h) in no_both refl (ap is_some o))
-      (λ a. omega (arith, ltb-false _ _ a, within l i b))
+      (λ a. omega (arith, ltb-false _ _ a, next_within l i (length l) refl refl b))

@@ -1,6 +1,6 @@
-// records: the tables that a call gets and returns by value, and how a record is read and stored. A library indexes
-// a table here, in `lists`, `thread_lists` and `exception`, and in place in `recorder`, each within its range; past
-// a table there is nothing.
+// records: the tables that a call is lent, and how a record is read and stored; a cascade gets them by value. Past a
+// table a read finds none and a store does nothing. Elsewhere `listed` and `exception` index a table, each within its
+// range, and the entry points, which take a name's rest by the table's size.
 #![tactic(auto)]
 
 pub mod reading;

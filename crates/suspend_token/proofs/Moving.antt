@@ -3,8 +3,10 @@
 --     refused, token_refused           refused: nothing is changed
 --     is_found, not_found              the task that a call is on, looked up
 --     told_bars, told_full             whether one of its threads bars a change
+--     unbarred, within                 no thread of a process does; a name that is no process's is a thread's
 --     changes, creates                 an accepted call
 --     suspends, resumes                1e and 1f at once are each of them
+--     none_is, none_unbarred, named    the suspensions of a task, by its records
 --     is_token, told_none, drops       a token looked up, the suspensions of its task, and its drop
 --     in_range, told_job               a kind's number is one, and a job's is 0
 -- Assumes nothing.
@@ -12,7 +14,7 @@ use Prim.Native.Nat.{ℕ, ◌%◌, ◌<◌, ◌≤◌}
 use native.Mathlib.Nat.{mod-eq_of_lt}
 use native.Mathlib.Omega.{arith}
 use mathlib.Core.Path.{◌≡◌, refl, ap, sym, ◌∙◌}
-use mathlib.Core.Bool.{Bool, false}
+use mathlib.Core.Bool.{Bool, true, false}
 use borrow.Author.Tests.{eqb-true, leb-true, leb-false, le-leb, lt-leb, lt-ltb, le-ltb, eq-eqb, ne_eqb}
 use denote.Enum.Bare.{sameb}
 use lib.IntN.{pos}
@@ -97,13 +99,19 @@ module _ (t : Tables) (kind n : ℕ) {m : ℕ} {v : Thread} (o : m ≡ tasks_of 
         (λ a. rw a (sym (u (eqb-true kind PROCESS a))))
         (λ a. rw a (ap (bars k) (sym (thread_at_lem t n (rw (o, z, a) at l) h))))) ∙ p
 
+    -- no thread of a process stands in the way
+    pub unbarred : (k : Each) {barred b : Bool} → (kind ≡ PROCESS → any_bars (bars k) n t.threads ≡ barred) →
+        b ≡ bars_in k kind v barred → b ≡ false → kind =? PROCESS ≡ true → any_bars (bars k) n t.threads ≡ false
+    unfolding bars_in if◌then◌otherwise◌
+    unbarred k u e g a = u (eqb-true kind PROCESS a) ∙ rw a at (sym e ∙ g)
+
     pub told_full : {barred b r : Bool} → (kind ≡ PROCESS → any_bars (bars SUSPEND) n t.threads ≡ barred) →
         r ≡ bars_in SUSPEND kind v barred → r ≡ b → some_at t kind n FULL ≡ b
     unfolding bars some_bars some_at
     told_full u e p = told_bars SUSPEND u e p
 
     -- a name that is not a process's is a thread's, and within the table
-    within : kind =? PROCESS ≡ false → n < 128
+    pub within : kind =? PROCESS ≡ false → n < 128
     unfolding tasks_of if◌then◌otherwise◌
     within a = rw (o, z, a) at l
 
@@ -163,7 +171,7 @@ module _ {x : Reply} (t : Tables) (kind n : ℕ) where
 
 module _ (t : Tables) (kind n : ℕ) {v : Thread} {barred : Bool} (h : thread_at t (n % 128) ≡ v)
     (g : kind ≡ PROCESS → any_bars (bars RESUME) n t.threads ≡ barred) where
-  none_is : length t.threads ≡ 128 → {b : Bool} → b ≡ none_in kind n v barred → b ≡ some_at t kind n 0
+  pub none_is : length t.threads ≡ 128 → {b : Bool} → b ≡ none_in kind n v barred → b ≡ some_at t kind n 0
   unfolding none_in some_at thread_at bars if◌then◌otherwise◌
   none_is long e =
       e ∙ by (kind =? PROCESS)
@@ -176,7 +184,12 @@ module _ (t : Tables) (kind n : ℕ) {v : Thread} {barred : Bool} (h : thread_at
       let at = thread_at_lem t n (leb-false 128 n c) h in
       rw (a, c) (ap (λ (w : Thread). w.suspends =? 0) (sym at))))
 
-  named : {b : Bool} → b ≡ none_in kind n v barred → b ≡ false → kind =? PROCESS ≡ false → n < 128
+  pub none_unbarred : {b : Bool} → b ≡ none_in kind n v barred → b ≡ false → kind =? PROCESS ≡ true →
+      any_bars (bars RESUME) n t.threads ≡ false
+  unfolding none_in if◌then◌otherwise◌
+  none_unbarred i e a = g (eqb-true kind PROCESS a) ∙ rw a at (sym i ∙ e)
+
+  pub named : {b : Bool} → b ≡ none_in kind n v barred → b ≡ false → kind =? PROCESS ≡ false → n < 128
   unfolding none_in if◌then◌otherwise◌
   named i e a = by (128 ≤? n) (λ c. no_both refl (rw (a, c) at (sym i ∙ e))) (λ c. leb-false 128 n c)
 

@@ -2,20 +2,21 @@
 -- policies, and a thread that finishes. Assumes nothing.
 use Rattle.record_process.specs.declared.Critical.{Critical}
 use Rattle.std.proofs.lemmas.Option.{none-some, same_Some}
-use Prim.Native.Nat.{ℕ, zero, suc}
+use Prim.Native.Nat.{ℕ, zero, suc, ◌<◌}
+use native.Mathlib.Omega.{arith}
 use mathlib.Core.Path.{◌≡◌, refl, sym, ap, ap₂, ◌∙◌, subst}
 use mathlib.Core.Bool.{Bool, true, false}
-use Rattle.laws.specs.Choice.{◌<?◌, ◌=?◌, if◌then◌otherwise◌}
-use Rattle.laws.proofs.Cases.{no_both, if_on, if_two, ite_two}
+use borrow.Author.Tests.{eqb-true, eqb-false, lt-leb}
+use Rattle.laws.specs.Choice.{◌=?◌, if◌then◌otherwise◌}
+use Rattle.laws.proofs.Cases.{by, no_both, if_on, if_two, ite_two}
 use Rattle.job_policy.specs.Policy.{merge}
 use Rattle.record_job.specs.Job.{new_job}
 use Rattle.record_process.specs.declared.Process.{Process}
 use Rattle.record_process.specs.Process.{new_process, bind_to}
 use Rattle.record_thread.specs.declared.Thread.{Thread}
 use Rattle.record_thread.specs.Thread.{new_thread, finish}
-use Rattle.record_token.proofs.Numbers.{numbered}
 use Rattle.record_token.specs.declared.SuspendToken.{SuspendToken}
-use Rattle.record_token.specs.SuspendToken.{kind_of, new_token, drop}
+use Rattle.record_token.specs.SuspendToken.{number, kind_of, new_token, drop}
 use Rattle.records.specs.declared.tables.Tables.{Tables}
 use Rattle.records.specs.Tables.{job_at, process_at, thread_at, put_thread}
 use Rattle.model.specs.Job.{lists_thread, is_above, end_process, finish_thread}
@@ -32,6 +33,16 @@ use Rattle.claims.proofs.Separation.UpTwo.{on_parent_two}
 use Rattle.claims.proofs.Separation.CascadeTwo.{end_process_two}
 
 -- ---- New records -----------------------------------------------------------------------------
+
+-- a number that is no kind is taken for a thread's, here and by `kind_of`
+task_kind : (x : Trip) (kind n : ℕ) → task_of x kind n ≡ task_of x (number (kind_of kind)) n
+unfolding kind_of if◌then◌otherwise◌
+task_kind x kind n =
+    by (kind =? 0) (λ a. rw (eqb-true kind 0 a))
+    (λ a. by (kind =? 1) (λ b. rw (eqb-true kind 1 b))
+    (λ b.
+    let l : 1 < kind = omega (arith, eqb-false kind 0 a, eqb-false kind 1 b) in
+    rw (a, b, lt-leb kind 1 l)))
 
 module _ {x y : Trip} where
   pub new_job_lem : (j new : ℕ) → (x.jobs j ≡ true → x.jobs new ≡ true) →
@@ -69,13 +80,13 @@ module _ {x y : Trip} where
         listed_made = g.listed_made;
       }
 
-  pub new_token_lem : (new kind n : ℕ) → 2 <? kind ≡ false → x.tokens new ≡ task_of x kind n →
+  pub new_token_lem : (new kind n : ℕ) → x.tokens new ≡ task_of x kind n →
       y.tokens new ≡ task_of y kind n →
       TokenFits x y new (new_token (kind_of kind) n)
-  new_token_lem new kind n l f g =
+  new_token_lem new kind n f g =
       record {
-        of_x = λ a e. rw (← same_Some _ _ e, numbered kind l) f;
-        of_y = λ a e. rw (← same_Some _ _ e, numbered kind l) g;
+        of_x = λ a e. rw (← same_Some _ _ e) (f ∙ task_kind x kind n);
+        of_y = λ a e. rw (← same_Some _ _ e) (g ∙ task_kind y kind n);
       }
 
   pub no_token_lem : (k : ℕ) (v : SuspendToken) → TokenFits x y k (drop v)

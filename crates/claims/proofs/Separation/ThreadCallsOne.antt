@@ -105,7 +105,7 @@ module _ {x y : Trip} {s t : Tables} (r : Agree x y s t) where
       let k : IsTask kind × (task_of x kind n ≡ true) = own_task u a c e in
       accept_on _
       (token_one (change_task_one r suspend (λ i w g. fits_suspend w g) kind n k.0 k.1)
-      new h _ (new_token_lem new kind n a (h ∙ sym k.1)
+      new h _ (new_token_lem new kind n (h ∙ sym k.1)
       (x_not_y_token r.apart new h ∙ sym (task_not_y r.apart kind n k.1)))))
 
   pub drop_token_one : Tree s → (k : ℕ) → OwnToken x k → Left x y t (drop_token_call s k)

@@ -106,7 +106,7 @@ module _ {x y : Trip} {s t : Tables} (r : Agree x y s t) where
       guard_two (some_at_same r kind n _ k.0 l) λ _ _.
       accept_two _ _
       (token_both (change_task_two r suspend (λ i w f. fits_suspend w f) kind n) new _
-      (new_token_lem new kind n a (g ∙ sym l) (h ∙ sym k.1))))
+      (new_token_lem new kind n (g ∙ sym l) (h ∙ sym k.1))))
 
   pub drop_token_two : Tree s → (k : ℕ) → OwnToken y k → Replied x y (drop_token_call s k)
       (drop_token_call t k)
