@@ -1,41 +1,126 @@
-// list: one list from its calls to its last line. The calls are given in parts; what the library writes for a part is
-// compared before the next is given.
-ghost use Rattle.replay.specs.Agree.{Replays};
+// list: one list from its calls to its last line. The calls are read in parts; what the library writes for a part is
+// compared before the next is read.
+ghost use Rattle.std.specs.Prelude.{◌≤◌, length, IfOk};
+ghost use Rattle.replay.specs.Agree.{Follows, Finishes, Replays, lines_of};
 
+use crate::pack;
 use crate::recorded::{Fault, Lines};
+use std::fs::File;
+use stream_state::State;
 
-// So many bytes of calls are given at once. Long lists are so cut at every place of a call, and the lines of a part can
-// be more than there is room for.
+// So many bytes of calls are read at once. Long lists are so cut at every place of a call, and the lines of a part can
+// be more than `out` has room for.
 const PART: usize = 2999;
 
-// Replays a list, and says how many bytes of its lines agreed. The last line is a stop if the recorder finished or a
-// cut call is left, and only then.
-pub fn replay(calls: &[u8], recorded: Lines<'_>) -> Result<usize, Fault>
-    ensures { Replays recorded.entry result }
+// All the memory that a replay takes: calls that are read, lines that are written for them, and those recorded.
+#[derive(Drop)]
+pub struct Buffers {
+    pub calls: [u8; 65536],
+    pub out: [u8; 4096],
+    pub want: [u8; 4096],
+}
+
+// Where a list stands: `have` bytes of calls are at the front of the buffer and not yet used.
+#[derive(Clone, Copy)]
+struct Progress<'a> {
+    state: State,
+    lines: Lines<'a>,
+    have: usize,
+    finished: bool,
+}
+
+// Calls the recorder on what is there until no whole call is left, and compares the lines.
+fn drain<'a>(
+    begun: Progress<'a>,
+    buf: &[u8],
+    out: &mut [u8],
+    want: &mut [u8],
+) -> Result<Progress<'a>, Fault>
+    ensures have_in_bounds { IfOk result (λ p. p.have ≤ length buf.now) }
+    ensures follows { Follows begun.entry.lines (lines_of result) }
 {
-    let mut out = [0u8; 4096];
-    let mut state = stream_state::fresh();
-    let mut lines = recorded;
+    let mut state = begun.state;
+    let mut lines = begun.lines;
     let mut at: usize = 0;
-    let mut end: usize = 0;
     // The recorder says how far it came, so no iterator gives the places.
     loop {
-        let r = recorder::feed(state, &calls[at..end], &mut out);
+        let r = recorder::feed(state, &buf[at..], out);
         let written = r.written;
-        lines = lines.compare(&out[..written])?;
-        if r.finished {
-            return lines.ended(lines.stop);
-        }
-        if r.consumed == 0 {
-            if end == calls.len() {
-                break;
-            }
-            end = calls.len().min(end.saturating_add(PART));
-        }
+        lines = lines.compare(&out[..written], want)?;
         at += r.consumed;
         state = r.state;
+        if r.finished || r.consumed == 0 {
+            return Ok(Progress {
+                state,
+                lines,
+                have: buf.len() - at,
+                finished: r.finished,
+            });
+        }
     }
-    let n = stream_state::close(state, &calls[at..], &mut out);
-    let last = lines.compare(&out[..n])?;
-    last.ended(last.stop == (at < calls.len()))
+}
+
+// Reads a part of the calls behind what is there, and does what came. The buffer has room for a part and a cut call.
+fn turn<'a>(
+    calls: &File,
+    part: usize,
+    begun: Progress<'a>,
+    buffers: &mut Buffers,
+) -> Result<Progress<'a>, Fault>
+    ensures { Follows begun.entry.lines (lines_of result) }
+{
+    let have = begun.have.min(buffers.calls.len());
+    let end = have.saturating_add(part).min(buffers.calls.len());
+    let got = pack::read_full(calls, &mut buffers.calls[have..end]);
+    if got < part {
+        return Err(Fault::Cut(begun.lines.at));
+    }
+    let p = drain(
+        begun,
+        &buffers.calls[..end],
+        &mut buffers.out,
+        &mut buffers.want,
+    )?;
+    buffers.calls.copy_within(end - p.have..end, 0);
+    Ok(p)
+}
+
+// The end of the calls. The last line is a stop if the recorder finished there or a cut call is left, and only then.
+fn finish(p: Progress<'_>, buffers: &mut Buffers) -> Result<usize, Fault>
+    ensures { Finishes p.entry.lines result }
+{
+    if p.finished {
+        return p.lines.ended(p.lines.stop);
+    }
+    let left = &buffers.calls[..p.have.min(buffers.calls.len())];
+    let n = stream_state::close(p.state, left, &mut buffers.out);
+    let last = p.lines.compare(&buffers.out[..n], &mut buffers.want)?;
+    last.ended(last.stop == !left.is_empty())
+}
+
+// Replays the list whose calls, of the given length, come next, and passes over what stands behind them. Says how many
+// bytes of its lines agreed, which are then all of them.
+pub fn replay(
+    calls: &File,
+    length: usize,
+    recorded: Lines<'_>,
+    buffers: &mut Buffers,
+) -> Result<usize, Fault>
+    ensures { Replays recorded.entry result }
+{
+    let mut p = Progress {
+        state: stream_state::fresh(),
+        lines: recorded,
+        have: 0,
+        finished: false,
+    };
+    let mut unread = length;
+    while unread > 0 && !p.finished {
+        let part = unread.min(PART);
+        p = turn(calls, part, p, buffers)?;
+        unread -= part;
+    }
+    let agreed = finish(p, buffers)?;
+    let behind = unread.saturating_add(4).saturating_add(agreed);
+    pack::pass(calls, behind, agreed, &mut buffers.calls)
 }

@@ -2,16 +2,14 @@
 // pack, up to its first list that differs.
 #![tactic(auto)]
 
-ghost use Rattle.std.specs.Prelude.{◌<◌, length, IfOk};
-
 mod list;
 mod pack;
 mod recorded;
 
+use list::Buffers;
 use recorded::Fault;
 use std::fs::File;
 use std::io;
-use std::io::Read;
 use std::rt::Files;
 
 // The lists of a pack that agree, and the bytes of their lines.
@@ -28,39 +26,46 @@ struct Failed {
     fault: Fault,
 }
 
-// Replays the list at the front, and answers the bytes of its lines and the lists behind it.
-fn replay_next(pack: &[u8]) -> Result<(usize, &[u8]), Fault>
-    ensures { IfOk result (λ p. length p.1.now < length pack.now) }
-{
-    let (entry, rest) = pack::entry_at(pack).ok_or(Fault::Cut(0))?;
-    let bytes = list::replay(entry.calls, entry.lines)?;
-    Ok((bytes, rest))
+// Replays the list that comes next, and answers the bytes of its lines; none at the end of the pack.
+fn replay_next(calls: &File, lines: &File, buffers: &mut Buffers) -> Result<Option<usize>, Fault> {
+    let mut bytes = [0u8; 4];
+    let Some(length) = pack::next_length(calls, &mut bytes)? else {
+        return Ok(None);
+    };
+    let recorded = pack::lines_behind(lines, length, &mut buffers.calls)?;
+    let agreed = list::replay(calls, length, recorded, buffers)?;
+    Ok(Some(agreed))
 }
 
-// Replays all lists.
-fn replay_all(pack: &[u8]) -> Result<Total, Failed> {
+// Replays all lists. A proved loop has to end, and nothing says that a file does: no run takes so many turns.
+fn replay_all(calls: &File, lines: &File, buffers: &mut Buffers) -> Result<Total, Failed> {
     let mut total = Total { lists: 0, bytes: 0 };
-    let mut left = pack;
-    while !left.is_empty() {
+    for _ in 0..u64::MAX {
         let list = total.lists.saturating_add(1);
-        let (bytes, rest) = replay_next(left).map_err(|fault| Failed { list, fault })?;
+        let next = replay_next(calls, lines, buffers);
+        let Some(bytes) = next.map_err(|fault| Failed { list, fault })? else {
+            return Ok(total);
+        };
         total = Total {
             lists: list,
             bytes: total.bytes.saturating_add(bytes),
         };
-        left = rest;
     }
     Ok(total)
 }
 
-// Replays a pack, and writes its line. A file that can't be read on ends there.
-fn replay_pack(rt: &(impl Files<File = File> + Print + AllocGlobal), name: &str) -> io::Result<()> {
-    let Ok(mut file) = File::open(rt, name) else {
+// Replays a pack, and writes its line. One file reads the calls, the other the lines, so that no more of a pack is in
+// memory than the buffers hold. A file that can't be read on ends there.
+fn replay_pack(rt: &(impl Files<File = File> + Print), name: &str) -> io::Result<()> {
+    let (Ok(calls), Ok(lines)) = (File::open(rt, name), File::open(rt, name)) else {
         return println!(rt; "{name}: missing");
     };
-    let mut pack = Vec::new(rt.alloc());
-    let _ = file.read_to_end(&mut pack);
-    match replay_all(&pack) {
+    let mut buffers = Buffers {
+        calls: [0; 65536],
+        out: [0; 4096],
+        want: [0; 4096],
+    };
+    match replay_all(&calls, &lines, &mut buffers) {
         Ok(Total { lists, bytes }) => {
             println!(rt; "{name} agrees. Lists: {lists}, bytes of lines: {bytes}")
         }

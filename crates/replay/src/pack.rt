@@ -1,38 +1,78 @@
 // pack: a file of lists. An entry is the length of the calls in 4 little-endian bytes, the calls, the length of the
 // lines in 4 bytes, the lines.
-ghost use Rattle.std.specs.Prelude.{◌+◌, ◌<◌, ◌≡◌, length, drop, MatchOption, IfSome};
-ghost use Rattle.replay.specs.Pack.{number, EndsEarly, IsEntry};
+ghost use Rattle.std.specs.Prelude.{ℕ, ◌≡◌, Bool, Option};
+ghost use Rattle.io.specs.Counts.{IsPrefixLen};
+ghost use Rattle.replay.specs.Agree.{length_of, lines_behind, passed};
 
-use crate::recorded::Lines;
+use crate::recorded::{Fault, Lines};
+use std::fs::File;
+use std::io::Read;
 
-// A list: its calls, and the lines that were recorded for them.
-#[derive(Clone, Copy)]
-pub struct Entry<'a> {
-    pub calls: &'a [u8],
-    pub lines: Lines<'a>,
+// Reads until the buffer is full, the file ends or a read fails, and says how many bytes came, which `read_exact`
+// does not.
+pub fn read_full(file: &File, buf: &mut [u8]) -> usize
+    ensures { IsPrefixLen result buf.new }
+{
+    let mut reader = file;
+    let mut done: usize = 0;
+    while done < buf.len() {
+        match reader.read(&mut buf[done..]) {
+            Ok(0) => return done,
+            Ok(n) => done += n,
+            Err(_) => return done,
+        }
+    }
+    done
 }
 
-// The length at the front, and what is behind it.
-fn length_at(bytes: &[u8]) -> Option<(usize, &[u8])>
-    ensures { MatchOption result (length bytes.now < 4)
-        (λ p. (p.0 ≡ number bytes.now) × (p.1.now ≡ drop 4 bytes.now)
-        × (length p.1.now + 4 ≡ length bytes.now)) }
+// The length that comes next; none at the end of the file.
+pub fn next_length(file: &File, bytes: &mut [u8; 4]) -> Result<Option<usize>, Fault>
+    ensures { (got : ℕ) × (result ≡ length_of got bytes.new) }
 {
-    let (length, rest) = bytes.split_first_chunk::<4>()?;
-    Some((u32::from_le_bytes(*length) as usize, rest))
+    let got = read_full(file, bytes);
+    if got == 0 {
+        return Ok(None);
+    }
+    if got < 4 {
+        return Err(Fault::Cut(0));
+    }
+    Ok(Some(u32::from_le_bytes(*bytes) as usize))
 }
 
-// The entry at the front, and what is behind it; none where the file ends before its lines. That it ends among them
-// is for `Lines` to find.
-pub fn entry_at(bytes: &[u8]) -> Option<(Entry<'_>, &[u8])>
-    ensures cases { MatchOption result (EndsEarly bytes.now)
-        (λ p. IsEntry bytes.now p.0 p.1.now) }
-    ensures shorter { IfSome result (λ p. length p.1.now < length bytes.now) }
+// Passes over n bytes, and says whether they were there.
+fn skip(file: &File, n: usize, buf: &mut [u8]) -> bool {
+    let mut left = n;
+    while left > 0 {
+        let k = left.min(buf.len());
+        let got = read_full(file, &mut buf[..k]);
+        if got == 0 {
+            return false;
+        }
+        left -= got;
+    }
+    true
+}
+
+// The lines of the entry at whose start the file stands, and whose calls have the given length.
+pub fn lines_behind<'a>(file: &'a File, calls: usize, buf: &mut [u8]) -> Result<Lines<'a>, Fault>
+    ensures { (found : Option ℕ) × (result ≡ lines_behind file.entry found) }
 {
-    let (n, behind) = length_at(bytes)?;
-    let (calls, behind) = behind.split_at_checked(n)?;
-    let (end, behind) = length_at(behind)?;
-    let (recorded, rest) = behind.split_at(end.min(behind.len()));
-    let lines = Lines::new(recorded, end);
-    Some((Entry { calls, lines }, rest))
+    if !skip(file, calls.saturating_add(4), buf) {
+        return Err(Fault::Cut(0));
+    }
+    let mut bytes = [0u8; 4];
+    let Some(end) = next_length(file, &mut bytes)? else {
+        return Err(Fault::Cut(0));
+    };
+    Ok(Lines::new(file, end))
+}
+
+// Passes over what stands behind the calls that were read, where `agreed` bytes of the list's lines did.
+pub fn pass(file: &File, behind: usize, agreed: usize, buf: &mut [u8]) -> Result<usize, Fault>
+    ensures { (there : Bool) × (result ≡ passed agreed there) }
+{
+    if !skip(file, behind, buf) {
+        return Err(Fault::Cut(agreed));
+    }
+    Ok(agreed)
 }

@@ -1,9 +1,11 @@
 // recorded: the recorded lines of a list, and how far what is written agrees with them.
 ghost use Rattle.std.specs.Prelude.{◌≡◌};
-ghost use Rattle.replay.specs.Agree.{common, lines_from, left, judged, over};
+ghost use Rattle.replay.specs.Agree.{common, lines_from, judged, over, Compares};
 
+use crate::pack;
 use std::fmt;
 use std::fmt::Display;
+use std::fs::File;
 
 // Why a list does not agree, and how many bytes of its lines did.
 #[derive(Clone, Copy)]
@@ -24,8 +26,8 @@ impl Display for Fault {
 // How far the recorded lines of a list are compared: `at` of `end` bytes agreed.
 #[derive(Clone, Copy)]
 pub struct Lines<'a> {
-    // What the file has of them: fewer than `end` where it ends too early.
-    pub recorded: &'a [u8],
+    // Stands behind the bytes that were compared.
+    pub file: &'a File,
     pub end: usize,
     pub at: usize,
     // Whether the last line was a stop.
@@ -41,42 +43,44 @@ fn common(a: &[u8], b: &[u8]) -> usize
 
 impl<'a> Lines<'a> {
     // The lines of a list before any is compared.
-    pub fn new(recorded: &'a [u8], end: usize) -> Lines<'a>
-        ensures { result ≡ lines_from recorded.entry end }
+    pub fn new(file: &'a File, end: usize) -> Lines<'a>
+        ensures { result ≡ lines_from file.entry end }
     {
         Lines {
-            recorded,
+            file,
             end,
             at: 0,
             stop: false,
         }
     }
 
-    // What the file still has of them.
-    fn left(self) -> &'a [u8]
-        ensures { result.now ≡ left self.entry }
-    {
-        self.recorded.get(self.at..).unwrap_or(&[])
-    }
-
-    // After `written` was written: all of it has to stand there.
-    pub fn compare(self, written: &[u8]) -> Result<Lines<'a>, Fault>
-        ensures { result ≡ judged self.entry written.now }
+    // After `written` was written, where `came` is what the file has there: all of it has to stand there.
+    fn judge(self, written: &[u8], came: &[u8]) -> Result<Lines<'a>, Fault>
+        ensures { result ≡ judged self.entry written.now came.now }
     {
         if written.is_empty() {
             return Ok(self);
         }
-        let left = self.left();
-        let agreed = common(written, left);
+        let agreed = common(written, came);
         let at = self.at.saturating_add(agreed);
         if agreed == written.len() {
             let stop = written.ends_with(b"stop\n");
             return Ok(Lines { at, stop, ..self });
         }
-        if left.len() < written.len().min(self.end.saturating_sub(self.at)) {
+        if came.len() < written.len().min(self.end.saturating_sub(self.at)) {
             return Err(Fault::Cut(at));
         }
         Err(Fault::Differs(at))
+    }
+
+    // Reads as many bytes of the lines as were written, none from behind them, and judges.
+    pub fn compare(self, written: &[u8], want: &mut [u8]) -> Result<Lines<'a>, Fault>
+        ensures { Compares self.entry written.now want.new result }
+    {
+        let there = self.end.saturating_sub(self.at).min(want.len());
+        let asked = written.len().min(there);
+        let got = pack::read_full(self.file, &mut want[..asked]);
+        self.judge(written, &want[..got])
     }
 
     // The end of the list: what else has to hold does, and no line is left. Answers how many bytes agreed.

@@ -1,42 +1,27 @@
--- What a comparison says comes behind all that came before.
-use Rattle.std.proofs.Common.{sym, ◌∙◌, arith}
-use Rattle.replay.proofs.Agree.{stays, goes_on_lem, faults, finishes}
-use Rattle.replay.proofs.list.replay.Goals.{then-r-eq0+else-end-calls, else-r-eq0}
+-- What a turn compares comes behind all that came before.
+use Rattle.std.proofs.Common.{ap}
+use Rattle.replay.specs.Agree.{lines_of}
+use Rattle.replay.proofs.Agree.{stays, hence, goes_on_lem, finishes, fails, replays, never_replayed}
 use Rattle.replay.proofs.list.replay.Goals as goal
 
-pub loop-lines-init : goal.loop-lines-init
-loop-lines-init c = record { used = omega arith; given = omega arith; follows = stays _ }
+pub loop-unread-init : goal.loop-unread-init
+loop-unread-init c = stays _
 
-pub returns-in_err-lines : goal.returns-in_err-lines
-returns-in_err-lines c =
-    faults _ c.loop-lines.invariant.follows (sym c.in_err-lines.was ∙ c.compare.ensures) c.from_residual.ensures.1
+pub returns-in_err-p : goal.returns-in_err-p
+unfolding lines_of
+returns-in_err-p c =
+    never_replayed (goes_on_lem c.loop-unread.invariant c.turn.ensures) (ap lines_of c.in_err-p.was)
+    c.from_residual.ensures.1
 
-pub returns-then-r : goal.returns-then-r
-returns-then-r c =
-    finishes _ (goes_on_lem _ c.loop-lines.invariant.follows (sym c.in_ok-lines.was ∙ c.compare.ensures))
-    c.ended.ensures
+pub loop-unread-preserved : goal.loop-unread-preserved
+unfolding lines_of
+loop-unread-preserved c =
+    hence (goes_on_lem c.loop-unread.invariant c.turn.ensures) (ap lines_of c.in_ok-p.was)
 
-pub loop-lines-preserved : goal.loop-lines-preserved
-loop-lines-preserved c = elim c.if-r-eq0.branch [
-  | then-r-eq0+else-end-calls w ↦ record {
-    used = omega arith;
-    given = omega arith;
-    follows = goes_on_lem _ c.loop-lines.invariant.follows (sym c.in_ok-lines.was ∙ c.compare.ensures);
-  }
-  | else-r-eq0 w ↦ record {
-    used = omega arith;
-    given = omega arith;
-    follows = goes_on_lem _ c.loop-lines.invariant.follows (sym c.in_ok-lines.was ∙ c.compare.ensures);
-  }
-]
-
-pub returns-in_err-last : goal.returns-in_err-last
-returns-in_err-last c = faults _
-    (goes_on_lem _ c.loop-lines.invariant.follows (sym c.in_ok-lines.was ∙ c.compare.ensures))
-    (sym c.in_err-last.was ∙ c.compare-2.ensures) c.from_residual-in_err-last.ensures.1
+pub returns-in_err-agreed : goal.returns-in_err-agreed
+returns-in_err-agreed c =
+    fails (finishes c.loop-unread.invariant c.finish.ensures) c.in_err-agreed.was
+    c.from_residual-in_err-agreed.ensures.1
 
 pub returns : goal.returns
-returns c = finishes _
-    (goes_on_lem _ (goes_on_lem _ c.loop-lines.invariant.follows (sym c.in_ok-lines.was ∙ c.compare.ensures))
-    (sym c.in_ok-last.was ∙ c.compare-2.ensures))
-    c.ended-2.ensures
+returns c = replays (finishes c.loop-unread.invariant c.finish.ensures) c.in_ok-agreed.was c.pass.ensures
