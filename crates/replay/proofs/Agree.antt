@@ -186,7 +186,7 @@ nothing_written l (x ∷ w) r e = absurd (omega arith)
 -- the fields as the code computes them
 pub some_written : (l : Lines) (w r : List ℕ) → (length w ≡ 0 → ⊥) → judged l w r ≡
     (if common w r =? length w
-    then Ok (record { file = l.file; end = l.end; at = agreed l w r; stop = is_stop w })
+    then Ok (record { end = l.end; at = agreed l w r; stop = is_stop w })
     otherwise
     (if length r <? min (length w) (l.end - l.at)
     then Err (Cut (agreed l w r))
@@ -199,7 +199,7 @@ some_written l (x ∷ w) r h = rw (all_common (x ∷ w) r)
 module _ (l : Lines) (w came : List ℕ) (a at : ℕ) (some : length w ≡ 0 → ⊥) (agrees : a ≡ common w came)
     (place : at ≡ min (l.at + a) (2 ^ 64 - 1)) where
   pub all_written : (stop : Bool) → stop ≡ is_stop w → a ≡ length w →
-      Ok (record { file = l.file; end = l.end; at = at; stop = stop }) ≡ judged l w came
+      Ok (record { end = l.end; at = at; stop = stop }) ≡ judged l w came
   unfolding if◌then◌otherwise◌
   all_written stop s k =
       sym (some_written l w came some ∙ rw (← agrees, ← place, ← s, eq-eqb a (length w) k))

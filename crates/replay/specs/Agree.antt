@@ -4,8 +4,6 @@ use Rattle.std.specs.Prelude.{◌≤◌, take, Option, None, Some, Result, Ok, E
 use Rattle.std.specs.List.{ends_with}
 use Rattle.std.specs.Int.{from_le_bytes, w32}
 use Rattle.laws.specs.Choice.{◌<?◌, ◌=?◌, ◌and◌, if◌then◌otherwise◌, ite}
-use Rattle.std.specs.Borrow.{Bor}
-use Rattle.std.specs.declared.fs.File.{File}
 use Rattle.replay.specs.declared.recorded.Lines.{Lines}
 use Rattle.replay.specs.declared.list.Progress.{Progress}
 use Rattle.replay.specs.declared.recorded.Fault.{Fault}
@@ -46,13 +44,13 @@ length_of got b =
 
 -- ---- How a list stands ---------------------------------------------------------------------
 
-abbrev pub lines_from : Bor File → ℕ → Lines
-lines_from file end = record { file = file; end = end; at = 0; stop = false }
+abbrev pub lines_from : ℕ → Lines
+lines_from end = record { end = end; at = 0; stop = false }
 
 -- the lines of an entry, by what their length is
-unfoldable pub lines_behind : Bor File → Option ℕ → Result Lines Fault
-lines_behind file None = Err (Cut 0)
-lines_behind file (Some n) = Ok (lines_from file n)
+unfoldable pub lines_behind : Option ℕ → Result Lines Fault
+lines_behind None = Err (Cut 0)
+lines_behind (Some n) = Ok (lines_from n)
 
 -- how many bytes agreed once w was written, and r came of the recorded lines
 abbrev pub agreed : Lines → (w r : List ℕ) → ℕ
@@ -64,7 +62,7 @@ unfoldable pub judged : Lines → (w r : List ℕ) → Result Lines Fault
 judged l [] r = Ok l
 judged l (x ∷ w) r =
     if begins (x ∷ w) r
-    then Ok (record { file = l.file; end = l.end; at = agreed l (x ∷ w) r; stop = is_stop (x ∷ w) })
+    then Ok (record { end = l.end; at = agreed l (x ∷ w) r; stop = is_stop (x ∷ w) })
     otherwise
     (if length r <? min (length (x ∷ w)) (l.end - l.at)
     then Err (Cut (agreed l (x ∷ w) r))

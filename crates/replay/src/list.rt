@@ -4,55 +4,56 @@ ghost use Rattle.std.specs.Prelude.{◌≤◌, length, IfOk};
 ghost use Rattle.replay.specs.Agree.{Follows, Finishes, Replays, lines_of};
 
 use crate::pack;
+use crate::pack::{Input, Pack};
 use crate::recorded::{Fault, Lines};
-use std::fs::File;
 use stream_state::State;
 
 // So many bytes of calls are read at once. Long lists are so cut at every place of a call, and the lines of a part can
 // be more than `out` has room for.
 const PART: usize = 2999;
 
-// All the memory that a replay takes: calls that are read, lines that are written for them, and those recorded.
+// What a list takes beside its inputs: calls that are read, lines that are written for them, and those recorded.
 #[derive(Drop)]
 pub struct Buffers {
-    pub calls: [u8; 65536],
+    pub calls: [u8; 4096],
     pub out: [u8; 4096],
     pub want: [u8; 4096],
 }
 
 // Where a list stands: `have` bytes of calls are at the front of the buffer and not yet used.
 #[derive(Clone, Copy)]
-struct Progress<'a> {
+struct Progress {
     state: State,
-    lines: Lines<'a>,
+    lines: Lines,
     have: usize,
     finished: bool,
 }
 
 // Calls the recorder on what is there until no whole call is left, and compares the lines.
-fn drain<'a>(
-    begun: Progress<'a>,
+fn drain(
+    lines: &mut Input,
+    begun: Progress,
     buf: &[u8],
     out: &mut [u8],
     want: &mut [u8],
-) -> Result<Progress<'a>, Fault>
+) -> Result<Progress, Fault>
     ensures have_in_bounds { IfOk result (λ p. p.have ≤ length buf.now) }
-    ensures follows { Follows begun.entry.lines (lines_of result) }
+    ensures follows { Follows begun.lines (lines_of result) }
 {
     let mut state = begun.state;
-    let mut lines = begun.lines;
+    let mut recorded = begun.lines;
     let mut at: usize = 0;
     // The recorder says how far it came, so no iterator gives the places.
     loop {
         let r = recorder::feed(state, &buf[at..], out);
         let written = r.written;
-        lines = lines.compare(&out[..written], want)?;
+        recorded = recorded.compare(lines, &out[..written], want)?;
         at += r.consumed;
         state = r.state;
         if r.finished || r.consumed == 0 {
             return Ok(Progress {
                 state,
-                lines,
+                lines: recorded,
                 have: buf.len() - at,
                 finished: r.finished,
             });
@@ -61,21 +62,22 @@ fn drain<'a>(
 }
 
 // Reads a part of the calls behind what is there, and does what came. The buffer has room for a part and a cut call.
-fn turn<'a>(
-    calls: &File,
+fn turn(
+    pack: &mut Pack,
     part: usize,
-    begun: Progress<'a>,
+    begun: Progress,
     buffers: &mut Buffers,
-) -> Result<Progress<'a>, Fault>
-    ensures { Follows begun.entry.lines (lines_of result) }
+) -> Result<Progress, Fault>
+    ensures { Follows begun.lines (lines_of result) }
 {
     let have = begun.have.min(buffers.calls.len());
     let end = have.saturating_add(part).min(buffers.calls.len());
-    let got = pack::read_full(calls, &mut buffers.calls[have..end]);
+    let got = pack.calls.read_full(&mut buffers.calls[have..end]);
     if got < part {
         return Err(Fault::Cut(begun.lines.at));
     }
     let p = drain(
+        &mut pack.lines,
         begun,
         &buffers.calls[..end],
         &mut buffers.out,
@@ -86,27 +88,29 @@ fn turn<'a>(
 }
 
 // The end of the calls. The last line is a stop if the recorder finished there or a cut call is left, and only then.
-fn finish(p: Progress<'_>, buffers: &mut Buffers) -> Result<usize, Fault>
-    ensures { Finishes p.entry.lines result }
+fn finish(lines: &mut Input, p: Progress, buffers: &mut Buffers) -> Result<usize, Fault>
+    ensures { Finishes p.lines result }
 {
     if p.finished {
         return p.lines.ended(p.lines.stop);
     }
     let left = &buffers.calls[..p.have.min(buffers.calls.len())];
     let n = stream_state::close(p.state, left, &mut buffers.out);
-    let last = p.lines.compare(&buffers.out[..n], &mut buffers.want)?;
+    let last = p
+        .lines
+        .compare(lines, &buffers.out[..n], &mut buffers.want)?;
     last.ended(last.stop == !left.is_empty())
 }
 
 // Replays the list whose calls, of the given length, come next, and passes over what stands behind them. Says how many
 // bytes of its lines agreed, which are then all of them.
 pub fn replay(
-    calls: &File,
+    pack: &mut Pack,
     length: usize,
-    recorded: Lines<'_>,
+    recorded: Lines,
     buffers: &mut Buffers,
 ) -> Result<usize, Fault>
-    ensures { Replays recorded.entry result }
+    ensures { Replays recorded result }
 {
     let mut p = Progress {
         state: stream_state::fresh(),
@@ -117,10 +121,10 @@ pub fn replay(
     let mut unread = length;
     while unread > 0 && !p.finished {
         let part = unread.min(PART);
-        p = turn(calls, part, p, buffers)?;
+        p = turn(pack, part, p, buffers)?;
         unread -= part;
     }
-    let agreed = finish(p, buffers)?;
+    let agreed = finish(&mut pack.lines, p, buffers)?;
     let behind = unread.saturating_add(4).saturating_add(agreed);
-    pack::pass(calls, behind, agreed, &mut buffers.calls)
+    pack::pass(&mut pack.calls, behind, agreed)
 }

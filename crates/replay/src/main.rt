@@ -7,6 +7,7 @@ mod pack;
 mod recorded;
 
 use list::Buffers;
+use pack::{Input, Pack};
 use recorded::Fault;
 use std::fs::File;
 use std::io;
@@ -27,22 +28,22 @@ struct Failed {
 }
 
 // Replays the list that comes next, and answers the bytes of its lines; none at the end of the pack.
-fn replay_next(calls: &File, lines: &File, buffers: &mut Buffers) -> Result<Option<usize>, Fault> {
+fn replay_next(pack: &mut Pack, buffers: &mut Buffers) -> Result<Option<usize>, Fault> {
     let mut bytes = [0u8; 4];
-    let Some(length) = pack::next_length(calls, &mut bytes)? else {
+    let Some(length) = pack::next_length(&mut pack.calls, &mut bytes)? else {
         return Ok(None);
     };
-    let recorded = pack::lines_behind(lines, length, &mut buffers.calls)?;
-    let agreed = list::replay(calls, length, recorded, buffers)?;
+    let recorded = pack::lines_behind(&mut pack.lines, length)?;
+    let agreed = list::replay(pack, length, recorded, buffers)?;
     Ok(Some(agreed))
 }
 
 // Replays all lists. A proved loop has to end, and nothing says that a file does: no run takes so many turns.
-fn replay_all(calls: &File, lines: &File, buffers: &mut Buffers) -> Result<Total, Failed> {
+fn replay_all(pack: &mut Pack, buffers: &mut Buffers) -> Result<Total, Failed> {
     let mut total = Total { lists: 0, bytes: 0 };
     for _ in 0..u64::MAX {
         let list = total.lists.saturating_add(1);
-        let next = replay_next(calls, lines, buffers);
+        let next = replay_next(pack, buffers);
         let Some(bytes) = next.map_err(|fault| Failed { list, fault })? else {
             return Ok(total);
         };
@@ -60,12 +61,16 @@ fn replay_pack(rt: &(impl Files<File = File> + Print), name: &str) -> io::Result
     let (Ok(calls), Ok(lines)) = (File::open(rt, name), File::open(rt, name)) else {
         return println!(rt; "{name}: missing");
     };
+    let mut pack = Pack {
+        calls: Input::new(calls),
+        lines: Input::new(lines),
+    };
     let mut buffers = Buffers {
-        calls: [0; 65536],
+        calls: [0; 4096],
         out: [0; 4096],
         want: [0; 4096],
     };
-    match replay_all(&calls, &lines, &mut buffers) {
+    match replay_all(&mut pack, &mut buffers) {
         Ok(Total { lists, bytes }) => {
             println!(rt; "{name} agrees. Lists: {lists}, bytes of lines: {bytes}")
         }

@@ -1,6 +1,6 @@
 // pack: a file of lists. An entry is the length of the calls in 4 little-endian bytes, the calls, the length of the
 // lines in 4 bytes, the lines.
-ghost use Rattle.std.specs.Prelude.{ℕ, ◌≡◌, Bool, Option};
+ghost use Rattle.std.specs.Prelude.{ℕ, ◌≡◌, ◌≤◌, Bool, Option, length};
 ghost use Rattle.io.specs.Counts.{IsPrefixLen};
 ghost use Rattle.replay.specs.Agree.{length_of, lines_behind, passed};
 
@@ -8,28 +8,95 @@ use crate::recorded::{Fault, Lines};
 use std::fs::File;
 use std::io::Read;
 
-// Reads until the buffer is full, the file ends or a read fails, and says how many bytes came, which `read_exact`
-// does not.
-pub fn read_full(file: &File, buf: &mut [u8]) -> usize
-    ensures { IsPrefixLen result buf.new }
-{
-    let mut reader = file;
-    let mut done: usize = 0;
-    while done < buf.len() {
-        match reader.read(&mut buf[done..]) {
-            Ok(0) => return done,
-            Ok(n) => done += n,
-            Err(_) => return done,
+// A file, read through a buffer, so that no small part of it is a call of the system: what was read and not yet taken
+// stands from `from` to `to`.
+#[derive(Drop)]
+pub struct Input {
+    file: File,
+    room: [u8; 32768],
+    from: usize,
+    to: usize,
+}
+
+impl Input {
+    // Nothing is read yet.
+    pub fn new(file: File) -> Input {
+        Input {
+            file,
+            room: [0; 32768],
+            from: 0,
+            to: 0,
         }
     }
-    done
+
+    // Reads once nothing is left to take. At the end of the file, or where a read fails, nothing is left then either.
+    fn fill(&mut self) {
+        if self.from < self.to {
+            return;
+        }
+        self.from = 0;
+        self.to = self.file.read(&mut self.room).unwrap_or(0);
+    }
+
+    // Takes as many bytes as are there and fit, and says how many; none at the end of the file.
+    fn take(&mut self, buf: &mut [u8]) -> usize
+        ensures { result ≤ length buf.new }
+    {
+        self.fill();
+        let from = self.from;
+        let to = self.to;
+        let Some(ready) = self.room.get(from..to) else {
+            return 0;
+        };
+        let n = ready.len().min(buf.len());
+        buf[..n].copy_from_slice(&ready[..n]);
+        self.from = from + n;
+        n
+    }
+
+    // Takes bytes until the buffer is full or the file ends, and says how many came.
+    pub fn read_full(&mut self, buf: &mut [u8]) -> usize
+        ensures { IsPrefixLen result buf.new }
+    {
+        let mut done: usize = 0;
+        while done < buf.len() {
+            let n = self.take(&mut buf[done..]);
+            if n == 0 {
+                return done;
+            }
+            done += n;
+        }
+        done
+    }
+
+    // Passes over n bytes, and says whether they were there.
+    fn skip(&mut self, n: usize) -> bool {
+        let mut left = n;
+        while left > 0 {
+            self.fill();
+            let passed = self.to.saturating_sub(self.from).min(left);
+            if passed == 0 {
+                return false;
+            }
+            self.from += passed;
+            left -= passed;
+        }
+        true
+    }
+}
+
+// A pack is read twice, side by side: its calls, and the lines that stand behind them.
+#[derive(Drop)]
+pub struct Pack {
+    pub calls: Input,
+    pub lines: Input,
 }
 
 // The length that comes next; none at the end of the file.
-pub fn next_length(file: &File, bytes: &mut [u8; 4]) -> Result<Option<usize>, Fault>
+pub fn next_length(input: &mut Input, bytes: &mut [u8; 4]) -> Result<Option<usize>, Fault>
     ensures { (got : ℕ) × (result ≡ length_of got bytes.new) }
 {
-    let got = read_full(file, bytes);
+    let got = input.read_full(bytes);
     if got == 0 {
         return Ok(None);
     }
@@ -39,39 +106,25 @@ pub fn next_length(file: &File, bytes: &mut [u8; 4]) -> Result<Option<usize>, Fa
     Ok(Some(u32::from_le_bytes(*bytes) as usize))
 }
 
-// Passes over n bytes, and says whether they were there.
-fn skip(file: &File, n: usize, buf: &mut [u8]) -> bool {
-    let mut left = n;
-    while left > 0 {
-        let k = left.min(buf.len());
-        let got = read_full(file, &mut buf[..k]);
-        if got == 0 {
-            return false;
-        }
-        left -= got;
-    }
-    true
-}
-
-// The lines of the entry at whose start the file stands, and whose calls have the given length.
-pub fn lines_behind<'a>(file: &'a File, calls: usize, buf: &mut [u8]) -> Result<Lines<'a>, Fault>
-    ensures { (found : Option ℕ) × (result ≡ lines_behind file.entry found) }
+// The lines of the entry at whose start the input stands, and whose calls have the given length.
+pub fn lines_behind(input: &mut Input, calls: usize) -> Result<Lines, Fault>
+    ensures { (found : Option ℕ) × (result ≡ lines_behind found) }
 {
-    if !skip(file, calls.saturating_add(4), buf) {
+    if !input.skip(calls.saturating_add(4)) {
         return Err(Fault::Cut(0));
     }
     let mut bytes = [0u8; 4];
-    let Some(end) = next_length(file, &mut bytes)? else {
+    let Some(end) = next_length(input, &mut bytes)? else {
         return Err(Fault::Cut(0));
     };
-    Ok(Lines::new(file, end))
+    Ok(Lines::new(end))
 }
 
 // Passes over what stands behind the calls that were read, where `agreed` bytes of the list's lines did.
-pub fn pass(file: &File, behind: usize, agreed: usize, buf: &mut [u8]) -> Result<usize, Fault>
+pub fn pass(input: &mut Input, behind: usize, agreed: usize) -> Result<usize, Fault>
     ensures { (there : Bool) × (result ≡ passed agreed there) }
 {
-    if !skip(file, behind, buf) {
+    if !input.skip(behind) {
         return Err(Fault::Cut(agreed));
     }
     Ok(agreed)

@@ -2,10 +2,9 @@
 ghost use Rattle.std.specs.Prelude.{◌≡◌};
 ghost use Rattle.replay.specs.Agree.{common, lines_from, judged, over, Compares};
 
-use crate::pack;
+use crate::pack::Input;
 use std::fmt;
 use std::fmt::Display;
-use std::fs::File;
 
 // Why a list does not agree, and how many bytes of its lines did.
 #[derive(Clone, Copy)]
@@ -25,9 +24,7 @@ impl Display for Fault {
 
 // How far the recorded lines of a list are compared: `at` of `end` bytes agreed.
 #[derive(Clone, Copy)]
-pub struct Lines<'a> {
-    // Stands behind the bytes that were compared.
-    pub file: &'a File,
+pub struct Lines {
     pub end: usize,
     pub at: usize,
     // Whether the last line was a stop.
@@ -41,13 +38,12 @@ fn common(a: &[u8], b: &[u8]) -> usize
     a.iter().zip(b).take_while(|(x, y)| x == y).count()
 }
 
-impl<'a> Lines<'a> {
+impl Lines {
     // The lines of a list before any is compared.
-    pub fn new(file: &'a File, end: usize) -> Lines<'a>
-        ensures { result ≡ lines_from file.entry end }
+    pub fn new(end: usize) -> Lines
+        ensures { result ≡ lines_from end }
     {
         Lines {
-            file,
             end,
             at: 0,
             stop: false,
@@ -55,8 +51,8 @@ impl<'a> Lines<'a> {
     }
 
     // After `written` was written, where `came` is what the file has there: all of it has to stand there.
-    fn judge(self, written: &[u8], came: &[u8]) -> Result<Lines<'a>, Fault>
-        ensures { result ≡ judged self.entry written.now came.now }
+    fn judge(self, written: &[u8], came: &[u8]) -> Result<Lines, Fault>
+        ensures { result ≡ judged self written.now came.now }
     {
         if written.is_empty() {
             return Ok(self);
@@ -73,19 +69,20 @@ impl<'a> Lines<'a> {
         Err(Fault::Differs(at))
     }
 
-    // Reads as many bytes of the lines as were written, none from behind them, and judges.
-    pub fn compare(self, written: &[u8], want: &mut [u8]) -> Result<Lines<'a>, Fault>
-        ensures { Compares self.entry written.now want.new result }
+    // Reads as many bytes of the lines as were written, none from behind them, and judges. The input stands behind the
+    // bytes that were compared.
+    pub fn compare(self, input: &mut Input, written: &[u8], want: &mut [u8]) -> Result<Lines, Fault>
+        ensures { Compares self written.now want.new result }
     {
         let there = self.end.saturating_sub(self.at).min(want.len());
         let asked = written.len().min(there);
-        let got = pack::read_full(self.file, &mut want[..asked]);
+        let got = input.read_full(&mut want[..asked]);
         self.judge(written, &want[..got])
     }
 
     // The end of the list: what else has to hold does, and no line is left. Answers how many bytes agreed.
     pub fn ended(self, holds: bool) -> Result<usize, Fault>
-        ensures { result ≡ over self.entry holds }
+        ensures { result ≡ over self holds }
     {
         if holds && self.at == self.end {
             return Ok(self.at);

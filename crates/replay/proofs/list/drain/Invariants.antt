@@ -4,8 +4,8 @@ use Rattle.std.proofs.Common.{◌-◌, ◌≤◌, length, Ok}
 use Rattle.replay.specs.Agree.{Follows}
 use Rattle.replay.proofs.list.drain.Given as goal
 
-abbrev pub invariant-loop-lines : goal.invariant-loop-lines
-invariant-loop-lines l = record { in_bounds : l.at ≤ length l.buf; follows : Follows l.begun.lines (Ok l.lines) }
+abbrev pub invariant-loop-recorded : goal.invariant-loop-recorded
+invariant-loop-recorded l = record { in_bounds : l.at ≤ length l.buf; follows : Follows l.fn.begun.lines (Ok l.recorded) }
 
-abbrev pub decreases-loop-lines : goal.decreases-loop-lines
-decreases-loop-lines l = length l.buf - l.at
+abbrev pub decreases-loop-recorded : goal.decreases-loop-recorded
+decreases-loop-recorded l = length l.buf - l.at

@@ -4,7 +4,7 @@ use Rattle.replay.specs.Agree.{Follows}
 use Rattle.replay.proofs.list.replay.Given as goal
 
 abbrev pub invariant-loop-unread : goal.invariant-loop-unread
-invariant-loop-unread l = Follows l.recorded (Ok l.p.lines)
+invariant-loop-unread l = Follows l.fn.recorded (Ok l.p.lines)
 
 abbrev pub decreases-loop-unread : goal.decreases-loop-unread
 decreases-loop-unread l = l.unread

@@ -1,6 +1,6 @@
 -- What came lies within the buffer. The measure is the room that is left.
 use Rattle.std.proofs.Common.{length, ◌-◌, ◌≤◌}
-use Rattle.replay.proofs.pack.read_full.Given as goal
+use Rattle.replay.proofs.pack.Input.read_full.Given as goal
 
 abbrev pub invariant-loop-done : goal.invariant-loop-done
 invariant-loop-done l = l.done ≤ length l.buf
