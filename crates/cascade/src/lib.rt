@@ -53,19 +53,19 @@ fn lists_thread(t: Tables, p: u8) -> bool
 // the cascade two tables more.
 #[tactic(auto, using(listed::proofs::Next::next_small, laws::proofs::Loops::length_mapped))]
 #[inline(never)]
-fn next_child(t: Tables, j: u8, from: u8) -> Option<u8>
-    ensures { result ≡ next_in (λ v. child_of v j) t.jobs from }
+fn next_child(jobs: [Job; 32], j: u8, from: u8) -> Option<u8>
+    ensures { result ≡ next_in (λ v. child_of v j) jobs from }
 {
-    next_on(&t.jobs, j, from)
+    next_on(&jobs, j, from)
 }
 
 // Its next process.
 #[tactic(auto, using(listed::proofs::Next::next_small, laws::proofs::Loops::length_mapped))]
 #[inline(never)]
-fn next_process(t: Tables, j: u8, from: u8) -> Option<u8>
-    ensures { result ≡ next_in (λ q. member_of q j) t.processes from }
+fn next_process(processes: [Process; 64], j: u8, from: u8) -> Option<u8>
+    ensures { result ≡ next_in (λ q. member_of q j) processes from }
 {
-    next_on(&t.processes, j, from)
+    next_on(&processes, j, from)
 }
 
 // -- The cascade ---------------------------------------------------------------------------
@@ -93,12 +93,12 @@ pub fn kill_job(mut t: Tables, j: u8) -> Tables
         return terminate::terminate_job(t, j);
     }
     let mut child = 0;
-    while let Some(c) = next_child(t, j, child) {
+    while let Some(c) = next_child(t.jobs, j, child) {
         t = kill_job(t, c);
         child = c + 1;
     }
     let mut member = 0;
-    while let Some(p) = next_process(t, j, member) {
+    while let Some(p) = next_process(t.processes, j, member) {
         t = exit_process(t, p, Process::KILL_CODE);
         member = p + 1;
     }
