@@ -1,6 +1,6 @@
 // pack: a file of lists. An entry is the length of the calls in 4 little-endian bytes, the calls, the length of the
 // lines in 4 bytes, the lines.
-ghost use Rattle.std.specs.Prelude.{ℕ, ◌≡◌, ◌≤◌, Bool, Option, length};
+ghost use Rattle.std.specs.Prelude.{ℕ, ◌≡◌, ◌≤◌, ◌-◌, Bool, Option, length, take, drop};
 ghost use Rattle.io.specs.Counts.{IsPrefixLen};
 ghost use Rattle.replay.specs.Agree.{length_of, lines_behind, passed};
 
@@ -38,9 +38,11 @@ impl Input {
         self.to = self.file.read(&mut self.room).unwrap_or(0);
     }
 
-    // Takes as many bytes as are there and fit, and says how many; none at the end of the file.
+    // Takes as many bytes as are there and fit, and says how many; none at the end of the file. They are those that
+    // stand before the place from which is taken next.
     fn take(&mut self, buf: &mut [u8]) -> usize
-        ensures { result ≤ length buf.new }
+        ensures in_bounds { result ≤ length buf.new }
+        ensures bytes { take result buf.new ≡ take result (drop (self.new.from - result) self.new.room) }
     {
         self.fill();
         let from = self.from;

@@ -90,6 +90,12 @@ module _ (t : Tables) (kind n : ℕ) {m : ℕ} {v : Thread} (o : m ≡ tasks_of 
         x ≡ call t (refuse 101 when tasks_of kind ≤? n >> (task t kind n >>= k))
     not_found k p r = passes (answered t) (pos 101) _ (within_told o l) (no_record t _ k found p r)
 
+  -- no thread of a process stands in the way
+  pub unbarred : (k : Each) {barred b : Bool} → (kind ≡ PROCESS → any_bars (bars k) n t.threads ≡ barred) →
+      b ≡ bars_in k kind v barred → b ≡ false → kind =? PROCESS ≡ true → any_bars (bars k) n t.threads ≡ false
+  unfolding bars_in if◌then◌otherwise◌
+  unbarred k u e g a = u (eqb-true kind PROCESS a) ∙ rw a at (sym e ∙ g)
+
   module _ (z : kind =? 0 ≡ false) where
     pub told_bars : (k : Each) {barred b r : Bool} → (kind ≡ PROCESS → any_bars (bars k) n t.threads ≡ barred) →
         r ≡ bars_in k kind v barred → r ≡ b → some_bars k t kind n ≡ b
@@ -98,12 +104,6 @@ module _ (t : Tables) (kind n : ℕ) {m : ℕ} {v : Thread} (o : m ≡ tasks_of 
         sym (e ∙ by (kind =? PROCESS)
         (λ a. rw a (sym (u (eqb-true kind PROCESS a))))
         (λ a. rw a (ap (bars k) (sym (thread_at_lem t n (rw (o, z, a) at l) h))))) ∙ p
-
-    -- no thread of a process stands in the way
-    pub unbarred : (k : Each) {barred b : Bool} → (kind ≡ PROCESS → any_bars (bars k) n t.threads ≡ barred) →
-        b ≡ bars_in k kind v barred → b ≡ false → kind =? PROCESS ≡ true → any_bars (bars k) n t.threads ≡ false
-    unfolding bars_in if◌then◌otherwise◌
-    unbarred k u e g a = u (eqb-true kind PROCESS a) ∙ rw a at (sym e ∙ g)
 
     pub told_full : {barred b r : Bool} → (kind ≡ PROCESS → any_bars (bars SUSPEND) n t.threads ≡ barred) →
         r ≡ bars_in SUSPEND kind v barred → r ≡ b → some_at t kind n FULL ≡ b
