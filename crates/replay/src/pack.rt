@@ -20,7 +20,9 @@ pub struct Input {
 
 impl Input {
     // Nothing is read yet.
-    pub fn new(file: File) -> Input {
+    pub fn new(file: File) -> Input
+        ensures { result.to ≤ result.from }
+    {
         Input {
             file,
             room: [0; 32768],
